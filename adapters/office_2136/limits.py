@@ -1,6 +1,7 @@
 """Limits that come before the work: how often, how many at once, and whose turn it is."""
 
 import collections
+import dataclasses
 import ipaddress
 import threading
 import time
@@ -100,35 +101,58 @@ class Shares:
                 del self.taken[holder]
 
 
+@dataclasses.dataclass
+class Connection:
+    """A connection: whence, what closes it, whether it has shown a key, and whether something is done for it."""
+    place: str
+    end: Callable[[], None]
+    known: bool = False
+    busy: bool = False
+
+
 class Doors:
-    """A bounded number of connections, and of each place. Where all are taken, the oldest that has shown no key has to go."""
+    """A bounded number of connections, and of each place. Where all are taken, one for which nothing is done has to go: the one
+    that is so for longest, of those without a key if there are any."""
 
     def __init__(self, most: int, of_place: int) -> None:
         self.most, self.of_place = most, of_place
         self.lock = threading.Lock()
-        self.known: dict[int, tuple[str, Callable[[], None]]] = {}  # the connections with a key, by number
-        self.strange: dict[int, tuple[str, Callable[[], None]]] = {}  # the others, the oldest first
+        self.open: dict[int, Connection] = {}  # by number, those that did something last at the end
 
     def enter(self, number: int, place: str, end: Callable[[], None]) -> bool:
         """Lets a connection in, which `end` closes, unless there are too many."""
         with self.lock:
-            if sum(one[0] == place for one in (*self.known.values(), *self.strange.values())) >= self.of_place:
-                return False
-            if len(self.known) + len(self.strange) >= self.most:
-                if not self.strange:
-                    return False
-                self.strange.pop(next(iter(self.strange)))[1]()
-            self.strange[number] = (place, end)
-            return True
+            here = [one for one in self.open.items() if one[1].place == place]
+            if len(here) >= self.of_place:
+                fits = self._send_away(here)
+            else:
+                fits = len(self.open) < self.most or self._send_away(list(self.open.items()))
+            if fits:
+                self.open[number] = Connection(place, end)
+            return fits
 
-    def show_key(self, number: int) -> None:
-        """The connection has sent a message that is rightly signed."""
+    def _send_away(self, some: list[tuple[int, Connection]]) -> bool:
+        idle = [one for one in some if not one[1].busy]
+        number, connection = next((one for one in idle if not one[1].known), idle[0] if idle else (0, None))
+        if connection is None:
+            return False
+        del self.open[number]
+        connection.end()
+        return True
+
+    def begin(self, number: int) -> None:
+        """The connection has sent a message that is rightly signed, and waits for the answer."""
         with self.lock:
-            if number in self.strange:
-                self.known[number] = self.strange.pop(number)
+            if number in self.open:
+                self.open[number] = dataclasses.replace(self.open.pop(number), known=True, busy=True)
+
+    def rest(self, number: int) -> None:
+        """The answer has been sent."""
+        with self.lock:
+            if number in self.open:
+                self.open[number] = dataclasses.replace(self.open.pop(number), busy=False)
 
     def leave(self, number: int) -> None:
         """The connection has ended."""
         with self.lock:
-            self.known.pop(number, None)
-            self.strange.pop(number, None)
+            self.open.pop(number, None)

@@ -1,6 +1,7 @@
 """The gateway's sockets: UDP, and TCP with a bounded number of connections, each of which is silent for a bounded time only."""
 
 import concurrent.futures
+import hashlib
 import itertools
 import socket
 import sys
@@ -8,6 +9,7 @@ import threading
 import time
 import traceback
 from collections.abc import Callable, Iterable
+from typing import Any
 
 from .gateway import Gateway, Job, Peer, Wait
 from .limits import Doors, Turns, place_of
@@ -35,6 +37,7 @@ class Server:  # pylint: disable=too-few-public-methods
         self.turns = Turns(WORKERS, LINE)
         self.doors = Doors(settings.tcp_connections, max(4, settings.tcp_connections // 5))
         self.numbers = itertools.count()
+        self.asked: set[tuple[Any, bytes]] = set()  # who asked over UDP, and what, of those that wait for their answer
 
     @staticmethod
     def _bound(address: tuple[str, int], kind: int) -> socket.socket:
@@ -73,11 +76,24 @@ class Server:  # pylint: disable=too-few-public-methods
         if isinstance(found, bytes):
             bound.sendto(found, where)
         elif isinstance(found, Job):
-            answers = found.answers
-            if not self.turns.put(found.holder, lambda: _quietly(lambda: [bound.sendto(one, where) for one in answers()])):
-                self.gateway.drop(peer, "line")
+            self._put_udp(bound, found, (where, hashlib.sha256(wire).digest()), peer)
         elif isinstance(found, Wait):
             self.gateway.drop(peer, found.limit)
+
+    def _put_udp(self, bound: socket.socket, job: Job, asked: tuple[Any, bytes], peer: Peer) -> None:
+        """Puts a job into its line, unless the same message of the same client is there: it gets one answer."""
+        def work() -> None:
+            try:
+                _quietly(lambda: [bound.sendto(one, asked[0]) for one in job.answers()])
+            finally:
+                self.asked.discard(asked)
+
+        if asked in self.asked:
+            return
+        self.asked.add(asked)
+        if not self.turns.put(job.holder, work):
+            self.asked.discard(asked)
+            self.gateway.drop(peer, "line")
 
     def _serve_tcp(self, bound: socket.socket) -> None:
         while True:
@@ -118,9 +134,11 @@ class Server:  # pylint: disable=too-few-public-methods
             found = self.gateway.take(wire, peer)
         if isinstance(found, Job):
             if found.signed:
-                self.doors.show_key(number)
+                self.doors.begin(number)
             answers = self._turn(found)
-            return answers is not None and _send(connection, answers)
+            going_on = answers is not None and _send(connection, answers)
+            self.doors.rest(number)
+            return going_on
         return found is not None and _send(connection, [found])
 
     def _turn(self, job: Job) -> Iterable[bytes] | None:

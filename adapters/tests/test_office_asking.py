@@ -17,8 +17,8 @@ from unittest import mock
 
 sys.path.insert(0, str(pathlib.Path(__file__).parents[1]))
 
-import office_asking  # noqa: E402 pylint: disable=wrong-import-position
-from office_asking import Kept, NoReply, NotGiven, Office, TooLong, Unsafe  # noqa: E402 pylint: disable=wrong-import-position
+import office_asking  # noqa: E402 pylint: disable=wrong-import-position, import-error
+from office_asking import Kept, NoReply, NotGiven, Office, TooLong, Unsafe  # noqa: E402 pylint: disable=wrong-import-position, import-error
 
 NOERROR = b'{"code":0,"name":"NOERROR"}'
 
