@@ -1,0 +1,140 @@
+"""What the scripts that try adapters share: an office behind nginx with the page's rules before its policy, and Knot, which `publish` feeds."""
+
+import json
+import os
+import re
+import signal
+import subprocess
+import threading
+import time
+
+from trying import FRONT, PROGRAM, TOP, Office, must, run, set_up_front, shown, wait_for
+
+CERTIFICATE = "/etc/zoneoffice/front/cert.pem"
+PAGE = "adapters.md"
+POLICY = "/etc/zoneoffice/policy.toml"
+STORE = "/var/lib/zoneoffice/store"
+PACKAGES = {"curl": "curl", "htpasswd": "apache2-utils", "ip": "iproute2", "kdig": "knot-dnsutils", "knotd": "knot",
+            "kzonecheck": "knot-dnssecutils", "nginx": "nginx", "openssl": "openssl", "systemd_socket_activate": "systemd"}
+
+
+def password(user):
+    return f"secret of {user}"
+
+
+def blocks(chapter):
+    """The indented blocks of a chapter of the page, without what indents them."""
+    text = open(os.path.join(TOP, "docs", PAGE), encoding="utf-8").read()
+    text = text[text.index(f"## {chapter}\n"):].split("\n## ", 1)[0]
+    return [re.sub(r"^    ", "", one, flags=re.M) for one in re.findall(r"(?:^    .*\n(?:\n(?=    ))?)+", text, re.M)]
+
+
+def block(chapter, start):
+    """The block of a chapter that begins so."""
+    for one in blocks(chapter):
+        if one.startswith(start):
+            return one
+    raise LookupError(f"{chapter} shows no {start}")
+
+
+def set_up_office(users, rules, zones=()):
+    """An office behind nginx over TLS, with passwords for these users, these rules first, and more zones: pairs of origin and text."""
+    set_up_front([*users, "phys", "admin"], password)
+    with open(POLICY, "r+", encoding="utf-8") as file:
+        text = file.read()
+        file.seek(0)
+        file.write(rules + "\n" + text)
+    for origin, text in zones:
+        must(f"runuser -u zoneoffice -- zoneoffice import --store {STORE} --origin {origin}", input=text)
+    return Office()
+
+
+def install(chapter):
+    """Installs an adapter by the commands of its chapter."""
+    for command in block(chapter, "install -D -m 755 -t /usr/local/lib/zoneoffice").splitlines():
+        must(command, cwd=TOP)
+
+
+def settings(path, text, user="root"):
+    """Writes settings as the page has them, of a user, and trusts the front server's own certificate."""
+    with open(path, "w", encoding="utf-8") as file:
+        os.chmod(path, 0o600)
+        file.write(f'ca = "{CERTIFICATE}"\n' + text)
+    must(f"chown {user} {path}")
+
+
+def ask(target, body=None, caller="admin"):
+    """What the office itself answers, as JSON."""
+    words = ["curl", "-sS", "--unix-socket", FRONT, "-H", f"X-Office-Caller: {caller}", f"http://office{target}"]
+    return json.loads(subprocess.run(words + (["-d", json.dumps(body)] if body else []), check=True, capture_output=True, text=True).stdout)
+
+
+def update(zone, *operations, caller="admin"):
+    """Makes an update, or fails."""
+    update.number += 1
+    said = ask(f"/zones/{zone}/updates", {"id": f"try-{update.number}", "operations": list(operations)}, caller)
+    if said != {"code": 0, "name": "NOERROR"}:
+        raise RuntimeError(f"{operations}: {said}")
+
+
+update.number = 0
+
+
+def add(name, kind, data, ttl=300):
+    return {"op": "add", "name": name, "ttl": ttl, "type": kind, "data": data}
+
+
+def delete(name, kind, data):
+    return {"op": "delete-record", "name": name, "type": kind, "data": data}
+
+
+def records(zone):
+    """The records of a zone but its SOA."""
+    return [one for one in ask(f"/zones/{zone}/records", caller="publisher")["records"] if " IN SOA " not in one]
+
+
+def changes(zone, first=1):
+    return ask(f"/zones/{zone}/changes/{first}", caller="publisher")["changes"]
+
+
+def receipts(caller, zone="example.org."):
+    """The receipts of a caller in a copy of the store: identifiers and replies."""
+    must(f"rm -rf /run/copy && mkdir /run/copy && cp {STORE} {STORE}-wal /run/copy/ 2> /dev/null || cp {STORE} /run/copy/")
+    said = must(f"{PROGRAM} log --store /run/copy/store --origin {zone} --caller {caller}")
+    return re.findall(rf"^receipt {caller} (\S+) (.*)$", said, re.M)
+
+
+class Knot:
+    """Knot at port 53 of all addresses, with zones that `publish` takes to it as soon as they change."""
+
+    def __init__(self, *zones):
+        folder = "/var/lib/knot/office"
+        must(f"usermod --append --groups knot publisher && install -d -m 755 -o publisher -g knot {folder} && install -d -o knot -g knot "
+             "/run/knot && install -m 755 deploy/publish /usr/local/bin/", cwd=TOP)
+        with open("/etc/knot/knot.conf", "w", encoding="utf-8") as file:
+            file.write("server:\n    rundir: /run/knot\n    user: knot:knot\n    listen: [ 127.0.0.1@53 ]\n"
+                       "database:\n    storage: /var/lib/knot\nzone:\n"
+                       + "".join(f"  - domain: {zone}\n    storage: {folder}\n" for zone in zones))
+        self.zones = zones
+        self.command = f"runuser -u publisher -- env TRIES=15 /usr/local/bin/publish knot {folder} {' '.join(zones)}"
+        self.process = subprocess.Popen(["knotd"], stdout=subprocess.DEVNULL, stderr=subprocess.DEVNULL)
+        self.is_going = True
+        self.thread = threading.Thread(target=self.go, daemon=True)
+        self.thread.start()
+        if not wait_for(lambda: all(dig(f"{zone} SOA") for zone in zones), 60):
+            raise RuntimeError(f"Knot does not serve {' '.join(zones)}: {run(self.command)}")
+
+    def go(self):
+        while self.is_going:
+            run(self.command)
+            time.sleep(0.2)
+
+    def stop(self):
+        self.is_going = False
+        self.thread.join(60)
+        self.process.send_signal(signal.SIGTERM)
+        self.process.wait(20)
+
+
+def dig(words):
+    return run(f"kdig +short +retry=1 +timeout=2 @127.0.0.1 {words}")[1]
