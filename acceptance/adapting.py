@@ -8,7 +8,7 @@ import subprocess
 import threading
 import time
 
-from trying import FRONT, PROGRAM, TOP, Office, must, run, set_up_front, shown, wait_for
+from trying import FRONT, PROGRAM, TOP, Office, must, run, set_up_front, wait_for
 
 CERTIFICATE = "/etc/zoneoffice/front/cert.pem"
 PAGE = "adapters.md"
@@ -102,6 +102,43 @@ def receipts(caller, zone="example.org."):
     must(f"rm -rf /run/copy && mkdir /run/copy && cp {STORE} {STORE}-wal /run/copy/ 2> /dev/null || cp {STORE} /run/copy/")
     said = must(f"{PROGRAM} log --store /run/copy/store --origin {zone} --caller {caller}")
     return re.findall(rf"^receipt {caller} (\S+) (.*)$", said, re.M)
+
+
+# runs a program, and kills it at so many lines of an adapter's code; without a number it prints how many there were
+STOPPER = """
+import os, runpy, sys, threading
+FOLDER, at, seen = "/usr/local/lib/zoneoffice/", int(sys.argv[1]), [0]
+def trace(frame, event, _):
+    if not frame.f_code.co_filename.startswith(FOLDER):
+        return None
+    seen[0] += event == "line"
+    if seen[0] == at:
+        os.kill(os.getpid(), 9)
+    return trace
+sys.argv = sys.argv[2:]
+sys.path.insert(0, FOLDER)
+threading.settrace(trace)
+sys.settrace(trace)
+try:
+    runpy.run_path(FOLDER + sys.argv[0], run_name="__main__")
+finally:
+    if not at:
+        os.write(2, f"{seen[0]} lines".encode())
+"""
+
+
+def stopped_at(line, *words, **more):
+    """Runs an adapter with words until so many lines of its code were run, and kills it there. Whether it was killed."""
+    done = subprocess.run(["/usr/bin/python3", "-c", STOPPER, str(line), *words], stdout=subprocess.DEVNULL, stderr=subprocess.DEVNULL,
+                          check=False, timeout=300, **more)
+    return done.returncode == -signal.SIGKILL
+
+
+def lines_of(*words, **more):
+    """How many lines of its code an adapter runs with these words."""
+    said = subprocess.run(["/usr/bin/python3", "-c", STOPPER, "0", *words], stdout=subprocess.DEVNULL, stderr=subprocess.PIPE, text=True,
+                          check=False, timeout=300, **more).stderr
+    return int(re.search(r"(\d+) lines$", said)[1])
 
 
 class Knot:

@@ -102,17 +102,24 @@ def absolute(word: str) -> str:
 def read_settings(path: str) -> Settings:
     """The settings of a file that is this user's or root's, and that no other user may read or write: it has a password, perhaps."""
     try:
-        file = os.open(path, os.O_RDONLY | os.O_NONBLOCK | os.O_CLOEXEC)
+        octets = private(path)
+        if len(octets) > LARGEST:
+            raise Wrong(f"{path} has more than {LARGEST} octets")
+        return Settings(tomllib.loads(octets.decode()), path)
     except OSError as error:
         raise Wrong(f"{path}: {error.strerror}") from None
-    with os.fdopen(file, "rb") as opened:
+    except (ValueError, RecursionError) as error:
+        raise Wrong(f"{path}: {printable(str(error))}") from None
+
+
+def private(path: str) -> bytes:
+    """The first octets of such a file."""
+    file = os.open(path, os.O_RDONLY | os.O_NONBLOCK | os.O_CLOEXEC)
+    try:
         found = os.fstat(file)
         if not stat.S_ISREG(found.st_mode) or found.st_uid not in (0, os.geteuid()) or stat.S_IMODE(found.st_mode) & 0o027:
             raise Wrong(f"{path} is not a file of root's or this user's that no other may read: its mode has to be 0600, or 0640")
-        octets = opened.read(LARGEST + 1)
-    try:
-        if len(octets) > LARGEST:
-            raise ValueError(f"it has more than {LARGEST} octets")
-        return Settings(tomllib.loads(octets.decode()), path)
-    except (ValueError, RecursionError) as error:
-        raise Wrong(f"{path}: {printable(str(error))}") from None
+        with os.fdopen(file, "rb", closefd=False) as opened:
+            return opened.read(LARGEST + 1)
+    finally:
+        os.close(file)
