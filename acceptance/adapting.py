@@ -1,5 +1,7 @@
 """What the scripts that try adapters share: an office behind nginx with the page's rules before its policy, and Knot, which `publish` feeds."""
 
+import http.client
+import http.server
 import json
 import os
 import re
@@ -37,13 +39,14 @@ def block(chapter, start):
     raise LookupError(f"{chapter} shows no {start}")
 
 
-def set_up_office(users, rules, zones=()):
-    """An office behind nginx over TLS, with passwords for these users, these rules first, and more zones: pairs of origin and text."""
+def set_up_office(users, rules, zones=(), last=False):
+    """An office behind nginx over TLS, with passwords for these users, these rules first or last, and more zones: pairs of origin and
+    text."""
     set_up_front([*users, "phys", "admin"], password)
     with open(POLICY, "r+", encoding="utf-8") as file:
         text = file.read()
         file.seek(0)
-        file.write(rules + "\n" + text)
+        file.write(f"{text}\n{rules}" if last else f"{rules}\n{text}")
     for origin, text in zones:
         must(f"runuser -u zoneoffice -- zoneoffice import --store {STORE} --origin {origin}", input=text)
     return Office()
@@ -56,10 +59,10 @@ def install(chapter):
 
 
 def settings(path, text, user="root"):
-    """Writes settings as the page has them, of a user, and trusts the front server's own certificate."""
+    """Writes settings as the page has them, of a user; those of an office over TLS trust the front server's own certificate."""
     with open(path, "w", encoding="utf-8") as file:
         os.chmod(path, 0o600)
-        file.write(f'ca = "{CERTIFICATE}"\n' + text)
+        file.write((f'ca = "{CERTIFICATE}"\n' if "https:" in text else "") + text)
     must(f"chown {user} {path}")
 
 
@@ -104,16 +107,17 @@ def receipts(caller, zone="example.org."):
     return re.findall(rf"^receipt {caller} (\S+) (.*)$", said, re.M)
 
 
-# runs a program, and kills it at so many lines of an adapter's code; without a number it prints how many there were
+# runs a program, and kills it when it comes to so many different lines of an adapter's code; with 0 it prints how many there were
 STOPPER = """
 import os, runpy, sys, threading
-FOLDER, at, seen = "/usr/local/lib/zoneoffice/", int(sys.argv[1]), [0]
+FOLDER, at, seen = "/usr/local/lib/zoneoffice/", int(sys.argv[1]), set()
 def trace(frame, event, _):
     if not frame.f_code.co_filename.startswith(FOLDER):
         return None
-    seen[0] += event == "line"
-    if seen[0] == at:
-        os.kill(os.getpid(), 9)
+    if event == "line":
+        seen.add((frame.f_code.co_filename, frame.f_lineno))
+        if len(seen) == at:
+            os.kill(os.getpid(), 9)
     return trace
 sys.argv = sys.argv[2:]
 sys.path.insert(0, FOLDER)
@@ -123,22 +127,58 @@ try:
     runpy.run_path(FOLDER + sys.argv[0], run_name="__main__")
 finally:
     if not at:
-        os.write(2, f"{seen[0]} lines".encode())
+        os.write(2, f"{len(seen)} lines".encode())
 """
 
 
 def stopped_at(line, *words, **more):
-    """Runs an adapter with words until so many lines of its code were run, and kills it there. Whether it was killed."""
+    """Runs an adapter with words until it comes to so many different lines of its code, and kills it there. Whether it was killed."""
     done = subprocess.run(["/usr/bin/python3", "-c", STOPPER, str(line), *words], stdout=subprocess.DEVNULL, stderr=subprocess.DEVNULL,
                           check=False, timeout=300, **more)
     return done.returncode == -signal.SIGKILL
 
 
 def lines_of(*words, **more):
-    """How many lines of its code an adapter runs with these words."""
+    """How many different lines of its code an adapter runs with these words."""
     said = subprocess.run(["/usr/bin/python3", "-c", STOPPER, "0", *words], stdout=subprocess.DEVNULL, stderr=subprocess.PIPE, text=True,
                           check=False, timeout=300, **more).stderr
     return int(re.search(r"(\d+) lines$", said)[1])
+
+
+class Losing(http.server.ThreadingHTTPServer):
+    """Hands requests to the office as a caller, and loses the first reply to each update, or calls a function before one."""
+
+    class Handler(http.server.BaseHTTPRequestHandler):
+        """One request and its reply."""
+
+        def answer(self):
+            body = self.rfile.read(int(self.headers.get("Content-Length") or 0))
+            self.server.before(body)
+            office = http.client.HTTPConnection("127.0.0.1", 8053, timeout=60)
+            office.request(self.command, self.path, body or None, {"X-Office-Caller": self.server.caller, "Connection": "close"})
+            response = office.getresponse()
+            text = response.read()
+            if body and self.server.loses and body not in self.server.lost:
+                self.server.lost.add(body)
+                return
+            self.send_response(response.status)
+            self.send_header("Content-Length", str(len(text)))
+            self.end_headers()
+            self.wfile.write(text)
+
+        do_GET = do_POST = answer
+
+        def log_message(self, *_):
+            pass
+
+    def __init__(self, caller, before=lambda body: None, loses=True):
+        super().__init__(("127.0.0.1", 0), self.Handler)
+        self.caller, self.before, self.loses, self.lost, self.port = caller, before, loses, set(), self.server_address[1]
+        threading.Thread(target=self.serve_forever, daemon=True).start()
+
+    def close(self):
+        self.shutdown()
+        self.server_close()
 
 
 class Knot:
