@@ -22,12 +22,12 @@ class Settings:
 
     def __init__(self, table: dict[str, Any], where: str) -> None:
         self._table = dict(table)
-        self._where = where
+        self.where = where
 
     def _take(self, name: str, kind: type, words: str) -> Any:
         value = self._table.pop(name, None)
         if value is not None and type(value) is not kind:  # pylint: disable=unidiomatic-typecheck
-            raise Wrong(f"{self._where}: {name} is not {words}")
+            raise Wrong(f"{self.where}: {name} is not {words}")
         return value
 
     def text(self, name: str) -> str | None:
@@ -39,7 +39,7 @@ class Settings:
         """A text that has to be there."""
         value = self.text(name)
         if not value:
-            raise Wrong(f"{self._where}: {name} is missing")
+            raise Wrong(f"{self.where}: {name} is missing")
         return value
 
     def flag(self, name: str) -> bool:
@@ -52,43 +52,50 @@ class Settings:
         if value is None:
             return default
         if not least <= value <= most:
-            raise Wrong(f"{self._where}: {name} is not from {least} to {most}")
+            raise Wrong(f"{self.where}: {name} is not from {least} to {most}")
         return int(value)
 
     def texts(self, name: str) -> list[str]:
         """A list of texts; empty if the key is not there."""
         value = self._take(name, list, "a list of texts") or []
         if not all(isinstance(one, str) for one in value):
-            raise Wrong(f"{self._where}: {name} is not a list of texts")
+            raise Wrong(f"{self.where}: {name} is not a list of texts")
         return list(value)
 
     def zones(self, name: str) -> list[str]:
         """A list of origins, one at least."""
         found = self.texts(name)
         if not found:
-            raise Wrong(f"{self._where}: {name} names no zone")
+            raise Wrong(f"{self.where}: {name} names no zone")
         return [absolute(one) for one in found]
 
     def tables(self, name: str) -> list["Settings"]:
         """A list of tables; empty if the key is not there."""
         value = self._take(name, list, "a list of tables") or []
         if not all(isinstance(one, dict) for one in value):
-            raise Wrong(f"{self._where}: {name} is not a list of tables")
-        return [Settings(one, f"{self._where}: {name} {number}") for number, one in enumerate(value, 1)]
+            raise Wrong(f"{self.where}: {name} is not a list of tables")
+        return [Settings(one, f"{self.where}: {name} {number}") for number, one in enumerate(value, 1)]
 
     def office(self) -> Office:
         """The office and who asks it: `url`, and `caller`, or `user` and `password`, or `cert` and `key`; `ca`, `tries`, `seconds`."""
+        return self.offices([self])[0]
+
+    def offices(self, callers: list["Settings"]) -> list[Office]:
+        """The same office for several callers, each of a table of its own."""
         url, tries, seconds = self.needed("url"), self.number("tries", 3, 1, 100), self.number("seconds", 30, 1, 300)
-        words = {name: self.text(name) for name in ("caller", "user", "password", "cert", "key", "ca")}
-        try:
-            return Office(url, tries=tries, seconds=seconds, **words)
-        except (ValueError, OSError) as error:
-            raise Wrong(f"{self._where}: {printable(str(error))}") from None
+        authorities, found = self.text("ca"), []
+        for one in callers:
+            words = {name: one.text(name) for name in ("caller", "user", "password", "cert", "key")}
+            try:
+                found.append(Office(url, tries=tries, seconds=seconds, ca=authorities, **words))
+            except (ValueError, OSError) as error:
+                raise Wrong(f"{one.where}: {printable(str(error))}") from None
+        return found
 
     def end(self) -> None:
         """Is called when all keys were asked for."""
         if self._table:
-            raise Wrong(f"{self._where}: there is no {printable(min(self._table), 40)}")
+            raise Wrong(f"{self.where}: there is no {printable(min(self._table), 40)}")
 
 
 def absolute(word: str) -> str:
