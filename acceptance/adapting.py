@@ -182,14 +182,15 @@ class Losing(http.server.ThreadingHTTPServer):
 
 
 class Knot:
-    """Knot at port 53 of all addresses, with zones that `publish` takes to it as soon as they change."""
+    """Knot at port 53 of 127.0.0.1 and of the example's ns1, 192.0.2.1, with zones that `publish` takes to it as soon as they change."""
 
     def __init__(self, *zones):
         folder = "/var/lib/knot/office"
+        must("ip address add 192.0.2.1/32 dev lo")
         must(f"usermod --append --groups knot publisher && install -d -m 755 -o publisher -g knot {folder} && install -d -o knot -g knot "
              "/run/knot && install -m 755 deploy/publish /usr/local/bin/", cwd=TOP)
         with open("/etc/knot/knot.conf", "w", encoding="utf-8") as file:
-            file.write("server:\n    rundir: /run/knot\n    user: knot:knot\n    listen: [ 127.0.0.1@53 ]\n"
+            file.write("server:\n    rundir: /run/knot\n    user: knot:knot\n    listen: [ 127.0.0.1@53, 192.0.2.1@53 ]\n"
                        "database:\n    storage: /var/lib/knot\nzone:\n"
                        + "".join(f"  - domain: {zone}\n    storage: {folder}\n" for zone in zones))
         self.zones = zones
@@ -211,6 +212,31 @@ class Knot:
         self.thread.join(60)
         self.process.send_signal(signal.SIGTERM)
         self.process.wait(20)
+
+
+DIRECTORY = "https://localhost:14000/dir"  # of pebble, whose certificate is /run/acme.pem
+TRUST = "REQUESTS_CA_BUNDLE=/run/acme.pem LEGO_CA_CERTIFICATES=/run/acme.pem CURL_CA_BUNDLE=/run/acme.pem"
+
+
+def start_pebble():
+    """pebble, which asks Knot for the records; it rejects no nonces, since dehydrated gives up at one."""
+    with open("/run/pebble.json", "w", encoding="utf-8") as file:
+        json.dump({"pebble": {"listenAddress": "127.0.0.1:14000", "managementListenAddress": "127.0.0.1:15000", "certificate": "/run/acme.pem",
+                              "privateKey": "/run/acme.key", "httpPort": 5002, "tlsPort": 5001, "ocspResponderURL": "",
+                              "externalAccountBindingRequired": False}}, file)
+    must("openssl req -x509 -newkey ec -pkeyopt ec_paramgen_curve:P-256 -nodes -subj /CN=localhost -addext subjectAltName=DNS:localhost "
+         "-days 2 -keyout /run/acme.key -out /run/acme.pem")
+    subprocess.Popen(["pebble", "-config", "/run/pebble.json", "-dnsserver", "127.0.0.1:53"], stdout=subprocess.DEVNULL,
+                     stderr=subprocess.DEVNULL, env={**os.environ, "PEBBLE_VA_NOSLEEP": "1", "PEBBLE_WFE_NONCEREJECT": "0",
+                                                     "PEBBLE_AUTHZREUSE": "0"})
+    if not wait_for(lambda: run(f"curl -s --cacert /run/acme.pem {DIRECTORY}")[0] == 0):
+        raise RuntimeError("pebble does not start")
+
+
+def names_of(path):
+    """The names that a certificate is for."""
+    said = run(f"openssl x509 -noout -ext subjectAltName -in {path}")[1]
+    return sorted(word.strip(" ,").removeprefix("DNS:") for word in said.splitlines()[-1].split(",")) if "DNS:" in said else said
 
 
 def dig(words):
