@@ -10,7 +10,7 @@ import tomllib
 from office_asking import Office, printable
 
 LARGEST = 1 << 20  # octets of a file of settings
-NAME = re.compile(r"(?:(?:[^\s.\\\x00-\x1f\x7f-\uffff]|\\\d{3}|\\[^\d\s]){1,63}\.)+")  # an absolute name in ASCII
+NAME = re.compile(r"(?:(?:[!-\-/-\[\]-~]|\\[0-9]{3}|\\[!-/:-~]){1,63}\.)+")  # an absolute name in ASCII
 
 
 class Wrong(Exception):
