@@ -1,16 +1,18 @@
 """What the scripts that try adapters share: an office behind nginx with the page's rules before its policy, and Knot, which `publish` feeds."""
 
+import contextlib
 import http.client
 import http.server
 import json
 import os
 import re
 import signal
+import sqlite3
 import subprocess
 import threading
 import time
 
-from trying import FRONT, PROGRAM, TOP, Office, must, run, set_up_front, wait_for
+from trying import FRONT, TOP, Office, must, run, set_up_front, wait_for
 
 CERTIFICATE = "/etc/zoneoffice/front/cert.pem"
 PAGE = "adapters.md"
@@ -101,10 +103,10 @@ def changes(zone, first=1):
 
 
 def receipts(caller, zone="example.org."):
-    """The receipts of a caller in a copy of the store: identifiers and replies."""
-    must(f"rm -rf /run/copy && mkdir /run/copy && cp {STORE} {STORE}-wal /run/copy/ 2> /dev/null || cp {STORE} /run/copy/")
-    said = must(f"{PROGRAM} log --store /run/copy/store --origin {zone} --caller {caller}")
-    return re.findall(rf"^receipt {caller} (\S+) (.*)$", said, re.M)
+    """The receipts of a caller for a zone, in a copy of the store: identifiers and replies."""
+    must(f"rm -rf /run/copy && mkdir /run/copy && cp {STORE}* /run/copy/")
+    with contextlib.closing(sqlite3.connect("/run/copy/store")) as copy:
+        return copy.execute("SELECT id, reply FROM receipts WHERE caller = ? AND origin = ?", (caller, zone)).fetchall()
 
 
 # runs a program, and kills it when it comes to so many different lines of an adapter's code; with 0 it prints how many there were
@@ -205,7 +207,7 @@ class Knot:
     def go(self):
         while self.is_going:
             run(self.command)
-            time.sleep(0.2)
+            time.sleep(0.5)
 
     def stop(self):
         self.is_going = False

@@ -1,8 +1,10 @@
 """Settings of an adapter: a TOML file that nobody else may read, in which each key is asked for by its name and its type."""
 
+import getopt
 import os
 import re
 import stat
+import sys
 from typing import Any
 
 import tomllib
@@ -82,7 +84,8 @@ class Settings:
 
     def offices(self, callers: list["Settings"]) -> list[Office]:
         """The same office for several callers, each of a table of its own."""
-        url, tries, seconds = self.needed("url"), self.number("tries", 3, 1, 100), self.number("seconds", 30, 1, 300)
+        url, tries = self.needed("url"), self.number("tries", 3, 1, 100)
+        seconds = self.number("seconds", 70, 1, 300)  # the front server gives up after 60
         authorities, found = self.text("ca"), []
         for one in callers:
             words = {name: one.text(name) for name in ("caller", "user", "password", "cert", "key")}
@@ -96,6 +99,20 @@ class Settings:
         """Is called when all keys were asked for."""
         if self._table:
             raise Wrong(f"{self.where}: there is no {printable(min(self._table), 40)}")
+
+
+def options_of(words: list[str], known: list[str], about: str | None) -> dict[str, str]:
+    """The options of a command that takes nothing else. `--help` prints what it is about, and ends it."""
+    try:
+        found, rest = getopt.getopt(words, "", [*known, "help"])
+    except getopt.GetoptError as error:
+        raise Wrong(printable(str(error))) from None
+    if ("--help", "") in found:
+        print(str(about).strip())
+        sys.exit(0)
+    if rest:
+        raise Wrong(f"{printable(rest[0])} is too much")
+    return dict(found)
 
 
 def absolute(word: str) -> str:
