@@ -33,7 +33,11 @@ AGAIN = {429, 502, 503, 504}  # the front server's: the request may be sent agai
 
 
 class NoReply(Exception):
-    """No reply came in all tries: an update may have been made, or not. Send it again under the same identifier."""
+    """No reply came in all tries. An update may have been made, or not: send it again under the same identifier."""
+
+
+class TooLong(Exception):
+    """A reply has more octets than it may have. It is not asked for again."""
 
 
 class NotGiven(Exception):
@@ -184,18 +188,19 @@ class Office:  # pylint: disable=too-many-instance-attributes
         """The same office for another caller: for adapters that may name callers."""
         return Office(self.url, caller=name, tries=self.tries, seconds=self.seconds)
 
-    def get(self, zone: str, *parts: str) -> Reply:
-        """The reply to GET /zones/ZONE/PARTS."""
-        return self._ask("GET", ("zones", zone, *parts), None, LONGEST)
+    def get(self, zone: str, *parts: str, most: int = LONGEST) -> Reply:
+        """The reply to GET /zones/ZONE/PARTS, if it has no more than so many octets."""
+        return self._ask("GET", ("zones", zone, *parts), None, most)
 
     def list_records(self, zone: str, within: str | None = None) -> list[str]:
         """The record lines that the caller may list, all or within a name; NotGiven if the zone is not there."""
         reply = _given(self.get(zone, "records", *([] if within is None else [within])))
         return _texts(reply, reply.field("records", list))
 
-    def changes(self, zone: str, first: int) -> list[Change]:
-        """What the caller sees of the zone's changes from a number on, the oldest first; NotGiven if the zone is not there."""
-        reply = _given(self.get(zone, "changes", str(first)))
+    def changes(self, zone: str, first: int, most: int = LONGEST) -> list[Change]:
+        """What the caller sees of the zone's changes from a number on, the oldest first; NotGiven if the zone is not there, TooLong
+        if the reply has more than so many octets."""
+        reply = _given(self.get(zone, "changes", str(first), most=most))
         found = []
         for one in reply.field("changes", list) or []:
             number = one.get("number") if isinstance(one, dict) else None
@@ -295,7 +300,7 @@ def _receive(connection: socket.socket, until: float, most: int) -> bytes:
             return bytes(octets)
         octets += piece
         if len(octets) > most:
-            raise EOFError(f"the reply has more than {most} octets")
+            raise TooLong(f"the reply has more than {most} octets")
 
 
 def _parse(octets: bytes, method: str) -> Reply:

@@ -17,8 +17,8 @@ from unittest import mock
 
 sys.path.insert(0, str(pathlib.Path(__file__).parents[1]))
 
-import office_asking  # noqa: E402 pylint: disable=wrong-import-position
-from office_asking import Kept, NoReply, NotGiven, Office, Unsafe  # noqa: E402 pylint: disable=wrong-import-position
+import office_asking  # noqa: E402 pylint: disable=wrong-import-position, import-error
+from office_asking import Kept, NoReply, NotGiven, Office, TooLong, Unsafe  # noqa: E402 pylint: disable=wrong-import-position, import-error
 
 NOERROR = b'{"code":0,"name":"NOERROR"}'
 
@@ -154,10 +154,10 @@ class Asking(unittest.TestCase):
             Office(f"http://127.0.0.1:{port}", caller="phys").get("example.org.", "file")
 
     def test_bounds_of_time_and_size(self) -> None:
-        """A reply that takes too long, or has too many octets in head or body, is none."""
-        for bad in drip, inflate, head_only:
+        """A reply that takes too long is none; one with too many octets in head or body is given up at once."""
+        for bad, error in (drip, NoReply), (inflate, TooLong), (head_only, TooLong):
             start = time.monotonic()
-            with self.assertRaises(NoReply):
+            with self.assertRaises(error):
                 self.update(bad, tries=1, seconds=1)
             self.assertLess(time.monotonic() - start, 4)
 
