@@ -207,7 +207,7 @@ class Knot:
     def go(self):
         while self.is_going:
             run(self.command)
-            time.sleep(0.5)
+            time.sleep(1)
 
     def stop(self):
         self.is_going = False
