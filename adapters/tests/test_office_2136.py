@@ -512,7 +512,8 @@ class Files(unittest.TestCase):
     def test_wrong_files(self) -> None:
         """Each mistake is told, not passed over."""
         for old, new in (("zones", "zonen"), ("127.0.0.1:5053", "0.0.0.0:5053"), ("127.0.0.1:5053", "127.0.0.1"),
-                         ("example.org.", "example.org"), ("hmac-sha256", "hmac-md5"), (SECRET, "c2hvcnQ="), (SECRET, "?"), ('"phys"', '"a b"'), ('"Reader."', '"PHYS."'),
+                         ("example.org.", "example.org"), ("hmac-sha256", "hmac-md5"), (SECRET, "c2hvcnQ="), (SECRET, "?"),
+                         ('"phys"', '"a b"'), ('"Reader."', '"PHYS."'),
                          ('caller = "phys"', 'caller = "phys"\nmore = 1'), ('reader = "reader"', 'answer-soa = 1'),
                          ('reader = "reader"', "poll = 0"),
                          ('reader = "reader"', 'notify = [{zone = "example.org.", address = "192.0.2.1"}]')):
