@@ -142,6 +142,36 @@ class Steps(unittest.TestCase):
         self.assertEqual((challenges.entries(), challenges.sweep(0)), ([], 0))
 
 
+class Waiting(unittest.TestCase):
+    """For which answers a hook waits."""
+    entry = acme.Entry("example.org.", NAME, VALUE, 0.0, "added", "x")
+
+    def wait(self, *turns: dict[str, bool | None]) -> int:
+        """Waits for servers, which answer in turns by their addresses; two addresses of one name begin alike. How many turns it took."""
+        asked: list[str] = []
+
+        def answers(server: Any, _: Any) -> bool | None:
+            asked.append(server.address)
+            return turns[min(asked.count(server.address), len(turns)) - 1][server.address]
+
+        servers = [acme.Server(address, 53, address[0]) for address in turns[0]]
+        with mock.patch.object(acme, "servers_of", lambda _: servers), mock.patch.object(acme, "answers", answers), \
+                mock.patch("time.sleep"):
+            acme.wait([self.entry], [], 1)
+        return max((asked.count(address) for address in turns[0]), default=0)
+
+    def test_all(self) -> None:
+        """All have to answer, some of them later; an address without a route counts only where its name has no other."""
+        self.assertEqual(self.wait({"a1": True, "b1": True}), 1)
+        self.assertEqual(self.wait({"a1": True, "b1": False}, {"a1": True, "b1": True}), 2)
+        self.assertEqual(self.wait({"a1": True, "a2": None, "b1": True}), 1)
+        self.assertEqual(self.wait({"a1": False, "a2": None}, {"a1": True, "a2": None}), 2)
+        self.assertRaises(acme.Refused, self.wait, {})
+        with mock.patch("time.monotonic", side_effect=range(1000)):
+            self.assertRaises(acme.Refused, self.wait, {"a1": True, "b1": None})
+            self.assertRaises(acme.Refused, self.wait, {"a1": True, "b1": False})
+
+
 class OfSettings(unittest.TestCase):
     """Files of settings."""
 
