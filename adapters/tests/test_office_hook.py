@@ -1,9 +1,12 @@
 """How office-hook reads, hands over and waits; acceptance/try-hook has the office, commands and URLs."""
 
+import contextlib
 import os
 import pathlib
+import socket
 import subprocess
 import tempfile
+import threading
 import time
 import unittest
 from typing import Any
@@ -137,6 +140,29 @@ class Taker(unittest.TestCase):
         self.assertEqual(hook.Command(["sh", "-c", "printf '\\033a'; exit 3"], 5).take(ZONE, 1, b""), "status 3: \\x1ba")
         self.assertEqual(hook.Command(["/nonexistent"], 5).take(ZONE, 1, b""), "/nonexistent: No such file or directory")
         self.assertEqual(hook.Command(["sleep", "9"], 1).take(ZONE, 1, b""), "it took more than 1 seconds")
+
+    def test_post(self) -> None:
+        """Each status, and answers that are cut off or come too slowly; no redirect is followed."""
+        with socket.create_server(("127.0.0.1", 0)) as server:
+            def serve(*pieces: bytes) -> None:
+                connection, _ = server.accept()
+                with connection, contextlib.suppress(OSError):
+                    connection.recv(65536)
+                    for piece in pieces:
+                        connection.sendall(piece)
+                        time.sleep(0.3 if len(pieces) > 1 else 0)
+
+            post = hook.taker_of(hook.Settings({"post": f"http://127.0.0.1:{server.getsockname()[1]}/", "limit": 1}, "a"), "a")
+            for pieces, why in ((b"HTTP/1.1 204 No\r\n\r\n",), None), ((b"HTTP/1.1 200 OK\r\nContent-Length: 9\r\n\r\n",), None), \
+                    ((b"HTTP/1.1 302 No\r\nLocation: /x\r\n\r\n",), "status 302"), ((b"HTTP/1.1 500 No\r\n\r\n",), "status 500"), \
+                    ((b"",), "Remote end closed connection without response"), ((b"odd\r\n",), "odd\\r\\n"), \
+                    ((b"HTTP/1.1 200 OK\r\n",) + (b"a: b\r\n",) * 9, "it took more than 1 seconds"):
+                with self.subTest(pieces=pieces):
+                    thread = threading.Thread(target=serve, args=pieces)
+                    thread.start()
+                    self.assertEqual(post.take(ZONE, 1, b"{}"), why)
+                    thread.join()
+        self.assertIn("refused", post.take(ZONE, 1, b"{}") or "")
 
     def test_settings(self) -> None:
         """Either a command or a URL without a user."""
