@@ -174,8 +174,8 @@ def set_up_front(users, password):
 
 
 # what the commands of the pages take from the top folder
-SOURCES = ("CHANGELOG.md", "adapters", "client", "crates/cli_core/src", "crates/dns_data/src", "crates/grant_policy/src", "crates/refusals/src",
-           "deploy", "docs", "examples", "package", "tools", "web")
+SOURCES = ("CHANGELOG.md", "adapters", "client", "crates/cli_core/src", "crates/dns_data/src", "crates/grant_policy/src",
+           "crates/refusals/src", "deploy", "docs", "examples", "package", "tools", "web")
 
 
 class Machine:

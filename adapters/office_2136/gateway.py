@@ -255,8 +255,9 @@ class OneByOne:  # pylint: disable=too-few-public-methods
 
 
 def identifier(message: Message, signed: Signed) -> str:
-    """The identifier of the update that a message is: of its octets, which have its time, and its key."""
-    return identifier_of(b"office-2136", signed.key.name.encode(), message.wire)
+    """The identifier of the update that a message is: of its key and its octets, which have its time and its first number. The
+    number in the head does not count: a server that forwards a message may change it."""
+    return identifier_of(b"office-2136", signed.key.name.encode(), message.wire[2:])
 
 
 def code_text(code: int) -> str:

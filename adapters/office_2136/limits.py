@@ -82,7 +82,7 @@ class Shares:
 
     def __init__(self, most: int, of_holder: int) -> None:
         self.most, self.of_holder = most, of_holder
-        self.lock = threading.Lock()
+        self.lock = threading.RLock()  # a task may end as garbage, in a thread that has the lock
         self.taken: collections.Counter[Hashable] = collections.Counter()
 
     def enter(self, holder: Hashable) -> bool:

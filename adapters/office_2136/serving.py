@@ -21,10 +21,19 @@ WRITE, LONGEST_WRITE = 30.0, 900.0  # seconds in which a peer takes a message, a
 OLDEST = 3600.0  # seconds of a connection
 
 
+WRITING = threading.Lock()
+
+
 def log(line: str) -> None:
     """Writes a line, whole."""
-    sys.stdout.write(line + "\n")
-    sys.stdout.flush()
+    with WRITING:
+        sys.stdout.write(line + "\n")
+        sys.stdout.flush()
+
+
+def log_fault() -> None:
+    """Writes a line on a fault of the gateway itself."""
+    log("fault " + ascii(traceback.format_exc())[-2000:])
 
 
 class Server:  # pylint: disable=too-few-public-methods
@@ -68,7 +77,7 @@ class Server:  # pylint: disable=too-few-public-methods
             except OSError:
                 continue  # of an answer to somebody who went away
             except Exception:  # pylint: disable=broad-exception-caught
-                log("fault " + repr(traceback.format_exc())[:2000])  # of this message: others are served
+                log_fault()  # of this message: others are served
 
     def _take_udp(self, bound: socket.socket, wire: bytes, where: tuple[str, int]) -> None:
         peer = Peer(where[0], False)
@@ -161,7 +170,7 @@ def _quietly(work: Callable[[], object]) -> None:
     except OSError:
         pass
     except Exception:  # pylint: disable=broad-exception-caught
-        log("fault " + repr(traceback.format_exc())[:2000])
+        log_fault()
 
 
 def _shut(connection: socket.socket) -> None:

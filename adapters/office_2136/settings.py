@@ -108,6 +108,8 @@ def parse(table: dict[str, Any]) -> Settings:
     zones = [_name(word, "zones") for word in _texts(table, "zones")]
     settings = Settings([_address(word) for word in _texts(table, "listen")], _text(table, "office"), zones, keys,
                         [_secondary(one, zones, keys) for one in _tables(table, "notify")])
+    if not settings.office.startswith(("unix:/", "http://")):
+        raise Wrong("office is unix:PATH, or http://.. on loopback: over https nobody may name callers")
     if not settings.listen or not zones or not keys:
         raise Wrong("listen, zones and key: there has to be one of each")
     if "reader" in table:

@@ -192,8 +192,9 @@ class Updates(Case):
         made.use_tsig(RING, "reader.")
         for one in wire, wire, made.to_wire():
             self.answer(one)
-        first, again, other = (one[3] for one in self.office.updates)
-        self.assertEqual(first, again)
+        self.answer(b"\0\0" + wire[2:])
+        first, again, other, forwarded = (one[3] for one in self.office.updates)
+        self.assertEqual((first, first), (again, forwarded))
         self.assertNotEqual(first, other)
 
     def test_codes_of_the_office(self) -> None:
@@ -400,6 +401,8 @@ class Reading(Case):
             SOA.format(9), SOA.format(7), SOA.format(8), "n2.example.org. 60 IN A 192.0.2.1",
             SOA.format(8), "n0.example.org. 60 IN A 192.0.2.1", SOA.format(9), SOA.format(9)])
         self.assertEqual(self.records(query("IXFR", serial=9)), [SOA.format(9)])
+        udp = dns.message.from_wire(self.answer(query("IXFR", serial=7).to_wire(), UDP)[0], keyring=RING, continue_on_error=True)
+        self.assertEqual([rrset.to_text() for rrset in udp.answer], [SOA.format(9)])
         self.assertEqual(self.records(query("IXFR", serial=10)), [SOA.format(9)])
         self.assertEqual(self.records(query("IXFR", serial=4)), [*self.office.records, SOA.format(9)])
         self.office.change(["n3.example.org. 60 IN A 192.0.2.1"], [])
@@ -511,7 +514,7 @@ class Files(unittest.TestCase):
 
     def test_wrong_files(self) -> None:
         """Each mistake is told, not passed over."""
-        for old, new in (("zones", "zonen"), ("127.0.0.1:5053", "0.0.0.0:5053"), ("127.0.0.1:5053", "127.0.0.1"),
+        for old, new in (("zones", "zonen"), ("http://", "https://"), ("127.0.0.1:5053", "0.0.0.0:5053"), ("127.0.0.1:5053", "127.0.0.1"),
                          ("example.org.", "example.org"), ("hmac-sha256", "hmac-md5"), (SECRET, "c2hvcnQ="), (SECRET, "?"),
                          ('"phys"', '"a b"'), ('"Reader."', '"PHYS."'),
                          ('caller = "phys"', 'caller = "phys"\nmore = 1'), ('reader = "reader"', 'answer-soa = 1'),

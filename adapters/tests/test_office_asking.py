@@ -5,7 +5,10 @@ import http.server
 import json
 import os
 import pathlib
+import shutil
 import socket
+import ssl
+import subprocess
 import sys
 import tempfile
 import threading
@@ -196,6 +199,29 @@ class Asking(unittest.TestCase):
         """An office at a socket of this machine."""
         with tempfile.TemporaryDirectory() as folder, serving((200, NOERROR), path=f"{folder}/s") as server:
             self.assertEqual(Office(server.url, caller="phys").update("a.", {}, "i").code, "NOERROR")
+
+    @unittest.skipUnless(shutil.which("openssl"), "openssl makes the certificate")
+    def test_https(self) -> None:
+        """The server's certificate is checked; user and password go to no other."""
+        with tempfile.TemporaryDirectory() as folder:
+            for name in "one", "two":
+                subprocess.run(["openssl", "req", "-x509", "-newkey", "ec", "-pkeyopt", "ec_paramgen_curve:P-256", "-nodes", "-subj",
+                                "/CN=localhost", "-addext", "subjectAltName=DNS:localhost", "-keyout", f"{folder}/{name}.key", "-out",
+                                f"{folder}/{name}.pem"], check=True, capture_output=True)
+            context = ssl.SSLContext(ssl.PROTOCOL_TLS_SERVER)
+            context.load_cert_chain(f"{folder}/one.pem", f"{folder}/one.key")
+            with serving((200, NOERROR)) as server:
+                server.socket = context.wrap_socket(server.socket, server_side=True)
+                url = f"https://localhost:{server.server_port}"
+                office = Office(url, user="phys", password="a:b", ca=f"{folder}/one.pem")
+                self.assertEqual(office.update("example.org.", {}, "i1").code, "NOERROR")
+                self.assertEqual(server.asked[0][2]["Authorization"], "Basic cGh5czphOmI=")
+                self.assertNotIn("X-Office-Caller", server.asked[0][2])
+                for wrong in Office(url, user="phys", password="a", ca=f"{folder}/two.pem"), Office(url, user="phys", password="a"), \
+                        Office(url.replace("localhost", "127.0.0.1"), user="phys", password="a", ca=f"{folder}/one.pem"):
+                    with self.assertRaises(NoReply):
+                        wrong.get("example.org.", "records")
+                self.assertEqual(len(server.asked), 1)
 
     def test_places_and_names_that_are_refused(self) -> None:
         """Passwords and callers go nowhere else; no octet gets into a head."""
