@@ -84,7 +84,7 @@ class Settings:
 
     def offices(self, callers: list["Settings"]) -> list[Office]:
         """The same office for several callers, each of a table of its own."""
-        url, tries = self.needed("url"), self.number("tries", 3, 1, 100)
+        url, tries = self.needed("url"), self.number("tries", 8, 1, 100)  # 16 seconds, in which an office may restart
         seconds = self.number("seconds", 70, 1, 300)  # the front server gives up after 60
         authorities, found = self.text("ca"), []
         for one in callers:
