@@ -1,0 +1,142 @@
+"""What office-ptr plans for the sets it reads; acceptance/try-ptr has the office."""
+
+import ipaddress
+import json
+import random
+import tempfile
+import unittest
+from typing import Any
+
+from loading import load
+from office_asking import Kept, NoReply, Reply
+
+ptr = load("office-ptr")
+FORWARD = ["example.org."]
+REVERSE = ["2.0.192.in-addr.arpa.", "8.b.d.0.1.0.0.2.ip6.arpa."]
+
+
+def records(*short: str) -> list[Any]:
+    """Records of short lines, all with the TTL 300."""
+    return [ptr.record_of(f"{one.split(' ', 1)[0]} 300 IN {one.split(' ', 1)[1]}") for one in short]
+
+
+def plans(forward: list[str], reverse: list[str], origin: str = REVERSE[0]) -> list[Any]:
+    """The plans of a reverse zone that change or tell something."""
+    zone = ptr.reverse_of(origin, records(*reverse))
+    found = ptr.plans_of(zone, ptr.hosts_of(records(*forward)), FORWARD, REVERSE)
+    return [plan for plan in found if plan.operations() or plan.words]
+
+
+def lines(forward: list[str], reverse: list[str], origin: str = REVERSE[0]) -> list[str]:
+    """What is changed, and what is told."""
+    return [line for plan in plans(forward, reverse, origin) for line in plan.lines() + ([plan.words] if plan.words else [])]
+
+
+class Plans(unittest.TestCase):
+    """What is changed and told."""
+
+    def test_new(self) -> None:
+        """The shortest name of an address has its PTR; wildcards have none; addresses of other zones are passed over."""
+        found = lines(["b.x.example.org. A 192.0.2.1", "z.example.org. A 192.0.2.1", "a.x.example.org. A 192.0.2.1",
+                       "*.example.org. A 192.0.2.2", "a.example.org. A 198.51.100.1"], [])
+        self.assertEqual(found, ["+ 1.2.0.192.in-addr.arpa. PTR z.example.org.",
+                                 "192.0.2.1 has a PTR to z.example.org., and none to a.x.example.org. b.x.example.org."])
+
+    def test_kept(self) -> None:
+        """A PTR that is right stays, in whatever case it is, beside others; one to a name elsewhere too."""
+        self.assertEqual(lines(["a.example.org. A 192.0.2.1"], ["1.2.0.192.in-addr.arpa. PTR A.example.ORG."]), [])
+        self.assertEqual(lines([], ["1.2.0.192.in-addr.arpa. PTR a.example.net.", "1.2.0.192.in-addr.arpa. PTR x\\.example.org."]), [])
+
+    def test_stale(self) -> None:
+        """A PTR to a name without the address goes, and what is wanted takes its place in the same update."""
+        reverse = ["1.2.0.192.in-addr.arpa. PTR old.example.org.", "2.2.0.192.in-addr.arpa. PTR gone.example.org."]
+        found = plans(["new.example.org. A 192.0.2.1"], reverse)
+        self.assertEqual(ptr.body_of(found), {
+            "prerequisites": [
+                {"test": "rrset-equals", "name": "1.2.0.192.in-addr.arpa.", "type": "PTR", "data": "old.example.org."},
+                {"test": "rrset-equals", "name": "2.2.0.192.in-addr.arpa.", "type": "PTR", "data": "gone.example.org."}],
+            "operations": [
+                {"op": "delete-record", "name": "1.2.0.192.in-addr.arpa.", "type": "PTR", "data": "old.example.org."},
+                {"op": "add", "name": "1.2.0.192.in-addr.arpa.", "type": "PTR", "ttl": 300, "data": "new.example.org."},
+                {"op": "delete-record", "name": "2.2.0.192.in-addr.arpa.", "type": "PTR", "data": "gone.example.org."}]})
+
+    def test_cuts(self) -> None:
+        """An alias at the owner, a delegation above it, and NS at the origin."""
+        forward = ["a.example.org. A 192.0.2.1"]
+        self.assertEqual(lines(forward, ["1.2.0.192.in-addr.arpa. CNAME 1.0/25.2.0.192.in-addr.arpa."]),
+                         ["1.2.0.192.in-addr.arpa. is left out: 1.2.0.192.in-addr.arpa. is an alias or a delegation"])
+        six = lines(["a.example.org. AAAA 2001:db8:f000::1"], ["f.8.b.d.0.1.0.0.2.ip6.arpa. NS ns.example.net."], REVERSE[1])
+        self.assertEqual((len(six), six[0][-60:]), (1, "out: f.8.b.d.0.1.0.0.2.ip6.arpa. is an alias or a delegation"))
+        self.assertEqual(len(lines(forward, ["2.0.192.in-addr.arpa. NS ns.example.net."])), 1)
+
+    def test_within(self) -> None:
+        """Names are labels, and not texts."""
+        for name, is_within in ("example.org.", True), ("a.example.org.", True), ("aexample.org.", False), ("a\\.example.org.", False), \
+                ("a\\\\.example.org.", True), ("org.", False):
+            self.assertEqual(ptr.is_within(name, "example.org."), is_within, name)
+
+    def test_nested(self) -> None:
+        """The nearest of two reverse zones has the PTR."""
+        hosts = ptr.hosts_of(records("a.example.org. A 192.0.2.1"))
+        both = ["0.192.in-addr.arpa.", "2.0.192.in-addr.arpa."]
+        found = [len(ptr.plans_of(ptr.reverse_of(origin, []), hosts, FORWARD, both)) for origin in both]
+        self.assertEqual(found, [0, 1])
+
+    def test_fixed_point(self) -> None:
+        """After the operations of a plan the next plan is empty, each address has a PTR, and each PTR is right, for random zones."""
+        rng = random.Random(5)
+        for _ in range(300):
+            forward = [f"{rng.choice('abcd')}.example.org. A 192.0.2.{rng.randrange(4)}" for _ in range(rng.randrange(8))]
+            there = {(f"{rng.randrange(4)}.2.0.192.in-addr.arpa.", f"{rng.choice('abcd')}.example.{rng.choice(['org', 'net'])}.")
+                     for _ in range(rng.randrange(6))}
+            for plan in plans(forward, [f"{owner} PTR {target}" for owner, target in sorted(there)]):
+                there -= {(plan.owner, one.data) for one in plan.stale}
+                there |= {(plan.owner, plan.new[0])} if plan.new else set()
+            left = [plan for plan in plans(forward, [f"{owner} PTR {target}" for owner, target in there]) if plan.operations()]
+            pairs = {(ipaddress.ip_address(line.split()[2]).reverse_pointer + ".", line.split()[0]) for line in forward}
+            wrong = [one for one in there if one[1].endswith(".org.") and one not in pairs]
+            self.assertEqual((left, wrong, {owner for owner, _ in pairs} - {owner for owner, _ in there}), ([], [], set()))
+
+    def test_batches(self) -> None:
+        """Many plans make updates within the limits, in order and without loss."""
+        found = plans([f"h{number}.example.org. A 192.0.2.{number}" for number in range(256)],
+                      [f"{number}.2.0.192.in-addr.arpa. PTR {'x' * 60}.{'y' * 60}.{number}-{copy}.example.org."
+                       for number in range(0, 256, 3) for copy in range(20)])
+        groups = list(ptr.batches(found))
+        self.assertEqual([plan for group in groups for plan in group], found)
+        self.assertTrue(all(ptr.fits(ptr.body_of(group)) for group in groups))
+        self.assertGreater(len(groups), 4)
+
+
+class Pending(unittest.TestCase):
+    """The update for which no reply came."""
+
+    def test_pending(self) -> None:
+        """It stays on the disk until it is decided, and is sent again as it was."""
+        replies: list[Any] = [None, Reply(500, "", {"code": 2, "name": "SERVFAIL"}), Reply(412, "", {"code": 8, "name": "NXRRSET"})]
+        sent: list[tuple[str, Any, str]] = []
+
+        class Asked:  # pylint: disable=too-few-public-methods
+            """An office that answers by a script."""
+
+            def update(self, zone: str, body: Any, identifier: str) -> Reply:
+                """The next reply; None is a lost one."""
+                sent.append((zone, body, identifier))
+                reply = replies.pop(0)
+                if reply is None:
+                    raise NoReply("lost")
+                assert isinstance(reply, Reply)
+                return reply
+
+        with tempfile.TemporaryDirectory() as folder:
+            keeper = ptr.Keeper(Asked(), Kept(folder + "/state"), FORWARD, REVERSE)
+            keeper.kept.write("pending", json.dumps({"zone": "a.", "body": {"operations": []}, "id": "x"}).encode())
+            for _ in range(2):
+                self.assertRaises(NoReply, keeper.finish_earlier)
+            keeper.finish_earlier()
+            keeper.finish_earlier()
+            self.assertEqual((sent, keeper.kept.names()), ([("a.", {"operations": []}, "x")] * 3, []))
+
+
+if __name__ == "__main__":
+    unittest.main()
