@@ -1,53 +1,21 @@
 //! Connections of callers in memory, of whom all is known.
 
-ghost use Rattle.std.specs.Prelude.{◌≡◌, ◌+◌, ◌-◌, ◌<◌, ◌≤◌, List, Option, Some, None, drop, length, option_map, slice_get, slice_set, vec_len};
+ghost use Rattle.std.specs.Prelude.{◌≡◌, ◌+◌, ◌-◌, ◌<◌, ◌≤◌, List, Option, Some, ⊤, length, option_map, slice_get, slice_set, vec_len};
 ghost use Rattle.std.specs.Duration.{as_nanos};
 ghost use Rattle.office_wire.specs.declared.serve_fault.ServeFault.{ServeFault as FaultOf};
 ghost use Rattle.wire_tcp.specs.Connections.{AreReported, AreServedFrom};
+ghost use Rattle.refuse_cli_store.specs.declared.caller.Caller.{Caller as CallerOf};
 
+use crate::caller::Caller;
 use cli_core::JobFault;
-use dns_master::{DeviceFailed, Pieces, Sink};
+use dns_master::{DeviceFailed, Sink};
 use office_model::ZoneTable;
 use office_wire::{Ending, ServeFault};
 use std::alloc::Global;
-use std::io::{self, Read, Write};
 use std::mem;
 use std::sync::ledger::{Book, Ledger, Share};
-use std::time::{Clock, Duration};
+use std::time::Clock;
 use wire_tcp::{Connections, Diagnosis, Listener, Peer};
-
-/// A caller in memory.
-#[derive(Drop)]
-pub struct Caller {
-    /// What it sends.
-    pub sent: Pieces,
-    /// What it was sent.
-    pub got: Pieces,
-}
-
-impl Peer for Caller {
-    ghost flow = { λ c. record { remaining = Some (drop c.sent.read c.sent.octets.items); contents = Some c.got.octets.items; events = None } };
-
-    ghost limits = { λ _. None };
-
-    fn read_within(&mut self, buffer: &mut [u8], _limit: Option<Duration>) -> io::Result<usize> {
-        self.sent.read(buffer)
-    }
-
-    fn write_within(&mut self, octets: &[u8], _limit: Option<Duration>) -> io::Result<usize> {
-        self.got.write(octets)
-    }
-}
-
-impl Caller {
-    /// Nobody: a caller that sends nothing.
-    fn nobody(alloc: Global) -> Caller {
-        Caller {
-            sent: Pieces::new(Vec::new(alloc), 0, 0),
-            got: Pieces::new(Vec::new(alloc), 0, 0),
-        }
-    }
-}
 
 /// Callers in memory, which connect one after the other.
 #[derive(Drop)]
@@ -68,10 +36,10 @@ impl<L: Ledger> Listener for Callers<L> {
 
     ghost taken = { λ l. l.taken.total };
 
-    ghost cut = { λ l. l.next ≡ length l.callers.items };
+    ghost cut = { λ _. ⊤ };
 
     ghost gives = { λ old peer new. (slice_get old.callers.items old.next ≡ Some peer) × (new.next ≡ old.next + 1)
-        × (nobody : Caller) × (new.callers.items ≡ slice_set old.callers.items old.next nobody) };
+        × (nobody : CallerOf) × (new.callers.items ≡ slice_set old.callers.items old.next nobody) };
 
     ghost ends = { λ old peer new. (new.next ≡ old.next) × (new.callers.items ≡ slice_set old.callers.items (old.next - 1) peer) };
 
@@ -102,15 +70,26 @@ pub fn serve_callers<L: Ledger, T: ZoneTable, D: Diagnosis<T>, C: Clock, W: Sink
     trace: &mut E,
 ) -> Result<(), JobFault>
     ensures served { T.is_honest table.new → AreServedFrom
-        (record { holds = T.holds; failures = T.failures; fault = D.fault connections.now.diagnosis.now; gives = ⟦<Callers<L> as Listener>⟧.gives;
-        ends = ⟦<Callers<L> as Listener>⟧.ends; flow = ⟦<Caller as Peer>⟧.flow; limits = ⟦<Caller as Peer>⟧.limits })
-        (record { rules = connections.now.policy.now; patience = option_map as_nanos connections.now.patience; most = connections.now.most;
-        cut = callers.old.next ≡ length callers.old.callers.items })
+        (record {
+          holds = T.holds;
+          failures = T.failures;
+          fault = D.fault connections.now.diagnosis.now;
+          gives = ⟦<Callers<L> as Listener>⟧.gives;
+          ends = ⟦<Callers<L> as Listener>⟧.ends;
+          flow = ⟦<Caller as Peer>⟧.flow;
+          limits = ⟦<Caller as Peer>⟧.limits;
+        })
+        (record {
+          rules = connections.now.policy.now;
+          patience = option_map as_nanos connections.now.patience;
+          most = connections.now.most;
+          cut = ⊤;
+        })
         table.old callers.old table.new callers.new result
         (record { old = W.contents writer.old; new = W.contents writer.new; before = W.failures writer.old; after = W.failures writer.new })
         (record { old = E.contents trace.old; new = E.contents trace.new; before = E.failures trace.old; after = E.failures trace.new }) }
     ensures written { (ends : List (Option FaultOf))
-        × AreReported (callers.old.next ≡ length callers.old.callers.items) connections.now.most ends (W.contents writer.old) (W.contents writer.new) result
+        × AreReported ⊤ connections.now.most ends (W.contents writer.old) (W.contents writer.new) result
         (W.failures writer.old) (W.failures writer.new)
         × (callers.new.taken.total ≡ callers.old.taken.total + length ends) }
 {

@@ -2,6 +2,7 @@
 //! calls; each edit in must-fail makes the call wrong in one idea, and the prover refuses it.
 #![tactic(auto)]
 
+pub mod caller;
 pub mod callers;
 
 ghost use Rattle.std.specs.Prelude.{◌≡◌, ◌+◌, List, Option, IfOk, IfErr, length, map, string_bytes};
