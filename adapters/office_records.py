@@ -1,6 +1,10 @@
-"""Record lines as an office lists them, and which names are within others."""
+"""The record types that an office keeps, record lines as it lists them, and which names are within others."""
 
 import dataclasses
+
+# made: types
+TYPES = ("A", "NS", "CNAME", "SOA", "PTR", "MX", "TXT", "AAAA", "SRV", "DS")
+# end
 
 
 @dataclasses.dataclass(frozen=True)

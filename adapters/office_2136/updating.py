@@ -12,10 +12,11 @@ import dns.rdata
 import dns.rdataclass
 import dns.rdatatype
 
+from office_records import TYPES
+
 from .message import Malformed, Message, Parser
 
-KINDS: dict[int, str] = {dns.rdatatype.from_text(word): word
-                         for word in ("A", "NS", "CNAME", "SOA", "PTR", "MX", "TXT", "AAAA", "SRV", "DS")}
+KINDS: dict[int, str] = {dns.rdatatype.from_text(word): word for word in TYPES}
 DHCID = dns.rdatatype.DHCID
 DHCID_LABEL = b"_dhcid"  # with `dhcid-as-txt`, the DHCID of a name is kept at this label below it
 ANY, NONE, IN = dns.rdataclass.ANY, dns.rdataclass.NONE, dns.rdataclass.IN

@@ -18,6 +18,7 @@ LISTS = {
         ("web/page.js", "types", lists.types_of_page),
         ("web/page.js", "fields", lists.fields_of_page),
         ("client/office", "types", lists.types_of_client),
+        ("adapters/office_records.py", "types", lists.types_of_adapters),
     ],
     "actions": [
         ("docs/policy.md", "actions", lists.actions_listed),

@@ -59,6 +59,10 @@ def types_of_client(_):
     return "TYPES = " + str(names).replace("'", '"')
 
 
+def types_of_adapters(_):
+    return "TYPES = " + str(tuple(one.name for one in sources.types())).replace("'", '"')
+
+
 # Actions
 
 def actions_listed(_):

@@ -13,7 +13,7 @@ import re
 from counting.functions import end_of, functions
 from counting.sources import Missing, crates, product_sources, read
 
-START = "wire_tcp", "serve_connections"
+START = "wire_tcp", "serve"
 # The tables that only tests use.
 TESTED = {"MemTable", "FailTable"}
 # What of requests, routes and replies is on the road.
