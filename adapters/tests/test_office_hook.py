@@ -147,7 +147,7 @@ class Taker(unittest.TestCase):
             def serve(*pieces: bytes) -> None:
                 connection, _ = server.accept()
                 with connection, contextlib.suppress(OSError):
-                    while not connection.recv(65536).endswith(b"{}"):
+                    while (got := connection.recv(65536)) and not got.endswith(b"{}"):
                         pass  # a socket that is closed before all of it is read takes back what was sent
                     for piece in pieces:
                         connection.sendall(piece)

@@ -163,15 +163,7 @@ fn served_from<T: ZoneTable>(
 ) -> Served {
     let (taken, writes, traces) = (Blank::new(1), Blank::new(1), Blank::new(1));
     served_in::<_, Brand, Brand, Brand>(
-        rt,
-        listener,
-        most,
-        longest,
-        table,
-        policy,
-        taken,
-        writes,
-        traces,
+        rt, listener, most, longest, table, policy, taken, writes, traces,
     )
 }
 
