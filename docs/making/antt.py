@@ -28,7 +28,7 @@ def tokens(text, line=1):
 
 def path_of(name):
     """The parts of a name: `types.«Type»` is `types`, `Type`."""
-    return [part.strip("«»") for part in re.findall(r"«[^»]+»|[^.]+", name)]
+    return [part.strip("«»") for part in re.findall(r"«[^»]+»|[^.]+", name)] if "." in name or "«" in name else [name]
 
 
 def is_name(text):
@@ -184,16 +184,17 @@ class Declaration:
     def __init__(self, spec, line, lines, section):
         self.spec, self.line, self.lines, self.section = spec, line, lines, section
         self.fixity, self.comment, self.group = [], [], self
-        self.chunks = [(line, lines)]
         marks = KIND.match(lines[0])
         self.kind = marks[1] or "function"
-        self.name = tokens(lines[0][marks.end():])[0].text.strip("«»")
+        self.head = tokens("\n".join([lines[0][marks.end():], *(lines[1:] if self.kind == "function" else [])]), line)
+        self.clauses = []
+        self.name = self.head[0].text.strip("«»")
         self.constructors = [name for entry in self.entries() for name in names_of(entry)] if self.kind == "data" else []
 
-    def add(self, line, lines, comment):
+    def add(self, found, lines, comment):
         """Adds a clause, with the comment above it."""
         self.lines = [*self.lines, *comment, *lines]
-        self.chunks.append((line, lines))
+        self.clauses.append(found)
 
     def entries(self):
         """The fields of a record or the constructors of a type, as their tokens."""
@@ -222,11 +223,10 @@ class Declaration:
             yield from self.free_in_type(bound)
 
     def free_in_function(self, bound, is_constructor):
-        (line, signature), *clauses = self.chunks
-        front, behind = cut(tokens("\n".join(signature), line), ":")
+        front, behind = cut(self.head, ":")
         yield from free_names(behind, bound | bound_by(front))
-        for line, lines in clauses:
-            left, right = cut(tokens("\n".join(lines), line), "=")
+        for clause in self.clauses:
+            left, right = cut(clause, "=")
             if left[0].text == "unfolding":
                 yield from left[1:]
                 continue
@@ -246,10 +246,8 @@ class Declaration:
                     bound.add(token.text)
 
     def free_in_type(self, bound):
-        line, lines = self.chunks[0]
-        head = tokens(lines[0][KIND.match(lines[0]).end():], line)[1:]
-        yield from free_names(head, bound)
-        bound = bound | bound_by(cut(head, ":")[0])
+        yield from free_names(self.head[1:], bound)
+        bound = bound | bound_by(cut(self.head[1:], ":")[0])
         for entry in self.entries():
             names, behind = cut(entry, ":")
             yield from free_names(behind, bound)
@@ -321,7 +319,7 @@ class Spec:
         if not is_clause:
             self.declare(Declaration(self, line, lines, section), comment)
         elif self.declarations and self.declarations[-1].is_of(found):
-            self.declarations[-1].add(line, lines, comment)
+            self.declarations[-1].add(found, lines, comment)
         else:
             raise Wrong(f"{self.path}:{line}: this clause is of no definition")
 

@@ -18,7 +18,8 @@ SMALL = {**dict.fromkeys("true false zero suc pos negsuc no_members member no_it
 
 @functools.cache
 def spec(path):
-    return antt.Spec(path)
+    """A file of definitions; None if it is not there."""
+    return antt.Spec(path) if os.path.exists(os.path.join(TOP, path)) else None
 
 
 @functools.cache
@@ -26,6 +27,7 @@ def source(crate, path):
     return rust.Source(crate, path)
 
 
+@functools.cache
 def is_ours(crate):
     return os.path.isdir(os.path.join(TOP, "crates", crate))
 
@@ -52,9 +54,9 @@ def item(one, where):
     if parts[:1] in (["declared"], ["contracts"]):
         return declared(crate, parts[1:], one.of, where)
     path = f"crates/{crate}/{room}/{'/'.join(parts)}.antt"
-    if not os.path.exists(os.path.join(TOP, path)):
-        raise Wrong(f"{where}: there is no {path}")
     file = spec(path)
+    if file is None:
+        raise Wrong(f"{where}: there is no {path}")
     if one.of in file.by_name:
         return file.by_name[one.of]
     if one.of in file.imports and file.imports[one.of].is_public:
