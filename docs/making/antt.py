@@ -7,7 +7,9 @@ from making.files import Wrong, read
 
 # a comment, a text, a projection behind a bracket, a name with what it is reached by or projected to, or a sign
 TOKEN = re.compile(r'--.*|"(?:[^"\\]|\\.)*"|(?<=[)}])(?:\.[^\s(){}.;,@"«»]+)+|(?:«[^»]+»|[^\s(){}.;,@"«»]+)(?:\.(?:«[^»]+»|[^\s(){}.;,@"«»]+))*|[(){}.;,@]')
-SIGNS = set("→ × ↦ = | : _ ← ⊔ Type record where let in do λ ( ) { } . ; , @".split())
+SIGNS = set("→ × = : _ ← ⊔ Type record let in do λ ( ) { } . ; ,".split())
+# what antt has and no definition here uses: it is refused, and not misread
+UNREAD = set("axiom mutual ruleset deriving open elim where unfold mod syntax".split())
 CLOSING = {"(": ")", "{": "}"}
 USE = re.compile(r"(?P<pub>pub )?use (?P<path>[\w.]+?)(?:\.\{(?P<names>.*)\}|(?: as (?P<alias>\S+))?)$", re.S)
 # what begins a declaration, behind its marks
@@ -111,6 +113,13 @@ class Expression:
         self.at = at + 1
         return names
 
+    def levels(self):
+        """The names up to the end of the brackets."""
+        begun = self.at
+        while not self.next_is(*CLOSING.values()):
+            self.at += 1
+        return [token.text for token in self.tokens[begun:self.at]]
+
     def bracket(self, closing, bound):
         """What stands in brackets, which may be a binder."""
         names = self.group()
@@ -166,12 +175,12 @@ def cut(found, sign):
 
 
 def bound_by(found):
-    """The names of binders and of levels in brackets, one behind the other, in front of a colon: `{ℓ} (A B : Type ℓ)`."""
+    """The names of binders and of levels in brackets, one behind the other, in front of a colon: `{ℓ κ} (A B : Type ℓ)`."""
     reader, names, depth = Expression(found), set(), 0
     while reader.at < len(found):
         token = reader.take()
         if token.text in CLOSING and not depth:
-            names.update(reader.group() or [it.text for it in found[reader.at:] if is_name(it.text)][:token.text == "{"])
+            names.update(reader.group() or reader.levels())
         depth += (token.text in CLOSING) - (token.text in CLOSING.values())
     return names
 
@@ -189,6 +198,8 @@ class Declaration:
         self.head = tokens("\n".join([lines[0][marks.end():], *(lines[1:] if self.kind == "function" else [])]), line)
         self.clauses = []
         self.name = self.head[0].text.strip("«»")
+        if self.name in UNREAD or self.kind != "function" and self.head.pop().text != "where":
+            raise Wrong(f"{spec.path}:{line}: this declaration is not understood")
         self.constructors = [name for entry in self.entries() for name in names_of(entry)] if self.kind == "data" else []
 
     def add(self, found, lines, comment):
@@ -214,9 +225,9 @@ class Declaration:
 
     def free(self, is_constructor):
         """The names that the definition uses, but its own and those that it binds."""
-        outer = tokens(self.section or "")
-        bound = bound_by(outer[2:])
-        yield from free_names(outer[2:])
+        outer = tokens(self.section or "")[2:-1]
+        bound = bound_by(outer)
+        yield from free_names(outer)
         if self.kind == "function":
             yield from self.free_in_function(bound, is_constructor)
         else:
@@ -302,7 +313,7 @@ class Spec:
         for line, comment, lines in found:
             first = lines[0]
             if first.startswith(("use ", "pub use ")):
-                self.imports.update((it.name, it) for it in imports(self.path, "\n".join(lines), line))
+                self.bring(line, imports(self.path, "\n".join(lines), line))
             elif first.startswith("module "):
                 self.read(chunks([one[2:] for one in lines[1:]], line + 1), first)
             elif first.startswith("infix"):
@@ -311,6 +322,12 @@ class Spec:
                 self.group = None
             elif not first.startswith(("pub mod ", "mod ")):
                 self.read_definition(line, comment, lines, section)
+
+    def bring(self, line, found):
+        for one in found:
+            if self.imports.get(one.name, one) != one:
+                raise Wrong(f"{self.path}:{line}: {one.name} is brought in twice")
+            self.imports[one.name] = one
 
     def read_definition(self, line, comment, lines, section):
         """Reads a signature, a record or a type of cases, or a clause of the definition before it."""
@@ -333,4 +350,6 @@ class Spec:
         one.group = self.group
         self.declarations.append(one)
         for name in (one.name, *one.constructors):
+            if name in self.by_name or name in self.imports:
+                raise Wrong(f"{self.path}:{one.line}: two things are called {name}")
             self.by_name[name] = one

@@ -261,7 +261,7 @@ def from_clause(names, tokens, bound, parameters, one):
             yield from along(one.source, parameters[first], rest, where)
         elif one.kind == "trait" and first in rust.members(one):
             yield rust.members(one)[first]
-        elif first in one.source.items or first in one.source.uses and first not in names.imports:
+        elif first not in names.imports and (first in one.source.items or first in one.source.uses):
             yield rust_item(one.source, first, where)
         else:
             yield names.target(token)

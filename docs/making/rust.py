@@ -109,7 +109,7 @@ def items(source, lines):
 
 def end_of(lines, at, ends):
     """The line, from this one on, that ends so."""
-    while not lines[at].endswith(ends):
+    while at + 1 < len(lines) and not lines[at].endswith(ends):
         at += 1
     return at
 
@@ -119,7 +119,7 @@ def end_of_block(lines, at):
     if lines[at].endswith((";", "}")):
         return at
     at += 1
-    while lines[at] not in ENDS:
+    while at + 1 < len(lines) and lines[at] not in ENDS:
         at += 1
     return at
 
