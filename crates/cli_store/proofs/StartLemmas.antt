@@ -1,22 +1,20 @@
 -- The history of starts on one disk.
-use Rattle.std.proofs.Common.{◌≡◌, ◌⊎◌, ℕ, List, [], ◌∷◌, Option, Some, IsTrue, refl, sym, subst, inl, inr}
+use Rattle.std.proofs.Common.{◌≡◌, ◌⊎◌, List, [], ◌∷◌, Option, Some, refl, sym, subst, inl, inr}
 use Rattle.sqlite_trees.specs.Tree.{Trees}
 use Rattle.sqlite.specs.State.{State as Shown, HasCleanDisk}
 use Rattle.office_model.specs.States.{State}
-use Rattle.office_model.specs.Tables.{Keeps, Kept, LeavesOr}
-use Rattle.store_sql.specs.Rows.{RowsOf}
+use Rattle.office_model.specs.Tables.{Kept, LeavesOr}
 use Rattle.store_sql.specs.Holds.{AreRows}
-use Rattle.office_wire.specs.Exchange.{Standing}
 use Rattle.office_wire.specs.Lifetimes.{Lifetime, IsLeftBy, AreLifetimes}
 use Rattle.office_wire.proofs.CrashLemmas.{crashes_leave_one_more}
 use Rattle.office_wire.proofs.LifetimeLemmas.{histories_are_one}
 use Rattle.office_store.specs.Holds.{HoldsState, LeavesStates, IsStateIn}
 use Rattle.office_store.proofs.QueryLemmas.{settled_of}
-use Rattle.wire_tcp.specs.Connections.{Visit, joined, standing_at, AreServed}
+use Rattle.wire_tcp.specs.Connections.{Visit, joined, standing_at}
 use Rattle.cli_store.specs.Around.{Callers}
 use Rattle.cli_store.specs.Stores.{IsAdopted}
-use Rattle.cli_store.specs.Serve.{TableAt, parties_of}
-use Rattle.cli_store.specs.Starts.{Start, moment_of, IsStart, Finds, AreStarts, AreOfStarts, StartsHaveOneHistory}
+use Rattle.cli_store.specs.Serve.{parties_of}
+use Rattle.cli_store.specs.Starts.{Start, moment_of, Finds, AreStarts, AreOfStarts, StartsHaveOneHistory}
 
 -- a state on the disk is what a store holds that was opened there, and what a crash leaves of it
 opened : (found now : Shown) (db : Trees) (s : State) → IsAdopted found now → HasCleanDisk now → Finds db found → IsStateIn db s

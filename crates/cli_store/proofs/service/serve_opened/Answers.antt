@@ -1,5 +1,6 @@
 use Rattle.std.proofs.Common.{ap, refl}
 use Rattle.sqlite.specs.Held.{state}
+use Rattle.cli_store.specs.Around.{Callers}
 use Rattle.cli_store.specs.Serve.{parties_of}
 use Rattle.cli_store.proofs.FilesLemmas.{told_as}
 use Rattle.cli_store.proofs.ServedLemmas.{served_of}
@@ -11,7 +12,7 @@ returns g c =
     let of = c.connections_of-connections.ensures in
     let table = c.args.table in
     let left = c.serve_table-done.new.table in
-    let callers = record { cut = g.M.Listener.Socket.cut; gives = g.M.Listener.Socket.gives; ends = g.M.Listener.Socket.ends; flow = g.M.Listener.Peer.Peer.flow; limits = g.M.Listener.Peer.Peer.limits } in
+    let callers : Callers _ _ = record { cut = g.M.Listener.Socket.cut; gives = g.M.Listener.Socket.gives; ends = g.M.Listener.Socket.ends; flow = g.M.Listener.Peer.Peer.flow; limits = g.M.Listener.Peer.Peer.limits } in
     rw c.into_connection.ensures (record {
       honest = e.honest;
       before = record { conn = table.conn; failures = table.book.total; fault = table.fault };
