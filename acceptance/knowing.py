@@ -213,8 +213,9 @@ class Provider:
         key = self.other if self.fault == "wrong key" else self.key
         token = jwt.encode(claims, key, "RS256", headers={"kid": "two" if self.fault == "unknown key" else "one"})
         head, body, sign = token.split(".")
-        if self.fault == "alg none":
-            return f"{encoded(json.dumps({'alg': 'none', 'typ': 'JWT'}).encode())}.{body}."
+        if self.fault and self.fault.startswith("alg none"):
+            more = {"kid": '"alg":"RS256"'} if "another" in self.fault else {}
+            return f"{encoded(json.dumps({'alg': 'none', **more}).encode())}.{body}.{sign if 'signature' in self.fault else ''}"
         if self.fault == "changed":
             return f"{head}.{encoded(json.dumps({**claims, 'email': 'grace@example.org'}).encode())}.{sign}"
         if self.fault in ("HS256 with the public key", "HS256 with the secret"):
