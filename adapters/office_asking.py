@@ -149,6 +149,7 @@ class Office:  # pylint: disable=too-many-instance-attributes
                  cert: str | None = None, key: str | None = None, ca: str | None = None,  # pylint: disable=invalid-name
                  tries: int = 3, seconds: float = 30) -> None:
         self.url, self.caller, self.tries, self.seconds = url, caller, tries, seconds
+        self.name = caller or user or "the caller of the certificate"
         self.fields = {"Connection": "close", "Host": "office"}
         self.context: ssl.SSLContext | None = None
         self.path = ""

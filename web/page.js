@@ -40,6 +40,7 @@ const LONGEST_PAUSE = 30; // seconds between two tries
 
 let words = {numbers: {}, replies: {}, front: {}};
 let caller = "";
+let actsFor = []; // of whom the person chooses the caller; empty where the front server knows it
 let zone = "";
 let records = []; // of the zone, in the order of the office
 let sets = new Map(); // the records of each name and type, under setKey
@@ -243,6 +244,9 @@ function faultText({fault, within, item}) {
 
 const part = (text) => encodeURIComponent(text);
 
+/** What comes before a path of the office, as this caller: the front server asks who may act for several. */
+const asCaller = (name) => (actsFor.length ? `/as/${part(name)}` : "");
+
 /** Sends a request, and gives its status (0: no reply came), its JSON, and as whom the front server took it. */
 async function request(method, path, body) {
     try {
@@ -288,7 +292,7 @@ const decidedBy = (rule) => (rule === "closing" ? "no rule grants it (closing)" 
 /** Reads a list of the zone; what is wrong goes to the status line. */
 async function readList(route, field) {
     const asked = zone;
-    const reply = await request("GET", `/zones/${part(zone)}/${route}`);
+    const reply = await request("GET", `${asCaller(caller)}/zones/${part(zone)}/${route}`);
     if (asked !== zone) {
         return null;
     }
@@ -644,9 +648,10 @@ async function deliver(job) {
     }
 }
 
-/** One try. Whoever gave another name and password meanwhile is another caller, as whom nothing of this one is sent. */
+/** One try. Whoever gave another name and password meanwhile is another caller, as whom nothing of this one is sent. Where a request
+ * says as whom, it is of that caller or refused. */
 async function attempt(job, tries) {
-    if (tries > 1) {
+    if (tries > 1 && actsFor.length === 0) {
         const who = await request("GET", "/page/zones.json");
         if (who.status !== 200) {
             return who.status === 404 ? {status: 0, json: null} : who;
@@ -655,7 +660,7 @@ async function attempt(job, tries) {
             return {status: 0, json: null, why: `it is an update of ${job.caller}, and you are ${who.caller} now`};
         }
     }
-    return request("POST", `/zones/${part(job.zone)}/updates`, job.body);
+    return request("POST", `${asCaller(job.caller)}/zones/${part(job.zone)}/updates`, job.body);
 }
 
 function pauseFor(job, pause) {
@@ -886,7 +891,7 @@ async function askEdit() {
         return;
     }
     const action = actionOf("add", name, type);
-    const reply = await request("GET", `/rights/${part(name)}/${type}/${action}`);
+    const reply = await request("GET", `${asCaller(caller)}/rights/${part(name)}/${type}/${action}`);
     if (asked === asks && reply.status === 200) {
         const {granted, by} = reply.json;
         $("edit-right").textContent = granted
@@ -1089,7 +1094,7 @@ async function askRights() {
         return;
     }
     say(`Asking for ${read.name} ${type} …`);
-    const path = `/rights/${part(read.name)}/${type}`;
+    const path = `${asCaller(caller)}/rights/${part(read.name)}/${type}`;
     const replies = [];
     for (const action of Object.keys(ACTIONS)) {
         replies.push(await request("GET", `${path}/${action}`));
@@ -1200,6 +1205,23 @@ function listen() {
     $("ask-type").addEventListener("input", askRights);
 }
 
+const chosenKey = (person) => `zoneoffice as ${person}`;
+
+/** Who may act for several callers chooses one; a choice begins the page anew, so that nothing of another caller is left in it. */
+function chooseCaller({person, callers}) {
+    actsFor = callers;
+    const last = localStorage.getItem(chosenKey(person));
+    caller = callers.includes(last) ? last : callers[0];
+    $("as").append(...callers.map((name) => make("option", {value: name}, name)));
+    $("as").value = caller;
+    $("as").addEventListener("change", () => {
+        localStorage.setItem(chosenKey(person), $("as").value);
+        location.reload();
+    });
+    $("choice").hidden = false;
+    $("caller").textContent = person;
+}
+
 async function start() {
     say("Reading who you are …");
     const [table, zones] = await Promise.all(["refusals", "zones"].map((name) => request("GET", `/page/${name}.json`)));
@@ -1210,6 +1232,14 @@ async function start() {
     words = table.json;
     caller = zones.caller ?? "";
     $("caller").textContent = caller;
+    if (zones.caller === null) {
+        const me = await request("GET", "/people/me");
+        if (me.status !== 200 || !Array.isArray(me.json?.callers) || me.json.callers.length === 0) {
+            say(`The page cannot start: ${inWords(me)}.`);
+            return;
+        }
+        chooseCaller(me.json);
+    }
     $("zone").append(...zones.json.map((name) => make("option", {value: name}, name)));
     for (const list of ["edit-type", "ask-type"]) {
         $(list).append(...TYPES.map((type) => make("option", {value: type}, type)));

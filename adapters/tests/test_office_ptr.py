@@ -1,11 +1,14 @@
 """What office-ptr plans for the sets it reads; acceptance/try-ptr has the office."""
 
+import contextlib
+import io
 import ipaddress
 import json
 import random
 import tempfile
 import unittest
 from typing import Any
+from unittest import mock
 
 from loading import load
 from office_asking import Kept, NoReply, Reply
@@ -136,6 +139,63 @@ class Pending(unittest.TestCase):
             keeper.finish_earlier()
             keeper.finish_earlier()
             self.assertEqual((sent, keeper.kept.names()), ([("a.", {"operations": []}, "x")] * 3, []))
+
+
+class Zones:
+    """An office in memory, which counts what is read, and makes updates of PTR, but at the owners of a set."""
+
+    def __init__(self, forward: list[str]) -> None:
+        self.lines = {FORWARD[0]: set(forward), REVERSE[0]: set[str]()}
+        self.reads: list[str] = []
+        self.updates = 0
+        self.aliases: set[str] = set()
+
+    def list_records(self, zone: str) -> list[str]:
+        """The lines of a zone."""
+        self.reads.append(zone)
+        return sorted(self.lines[zone])
+
+    def update(self, zone: str, body: Any, _: str) -> Reply:
+        """Makes an update; an addition beside an alias is passed over."""
+        self.updates += 1
+        for item in body["operations"]:
+            line = f"{item['name']} {item.get('ttl', 300)} IN PTR {item['data']}"
+            if item["op"] == "delete-record":
+                self.lines[zone].discard(line)
+            elif item["name"] not in self.aliases:
+                self.lines[zone].add(line)
+        return Reply(200, "", {"code": 0, "name": "NOERROR"})
+
+
+class Reads(unittest.TestCase):
+    """How often a zone is read: once a round, however many updates it has."""
+
+    def run_over(self, office: Zones) -> Any:
+        """A keeper after a run of it over one reverse zone."""
+        with tempfile.TemporaryDirectory() as folder, contextlib.redirect_stdout(io.StringIO()) as printed:
+            keeper = ptr.Keeper(office, Kept(folder + "/state"), FORWARD, REVERSE[:1])
+            keeper.run(False)
+        self.assertTrue(keeper.is_whole)
+        self.assertTrue(printed.getvalue().endswith("\n"))
+        return keeper
+
+    def test_reads(self) -> None:
+        """16 updates: the forward zone is read once, and the reverse zone before and after them."""
+        names = [f"{'x' * 50}.{'y' * 50}.{'z' * 50}.h{number}.example.org. 300 IN A 192.0.2.{number}" for number in range(250)]
+        office = Zones(names)
+        with mock.patch.object(ptr, "PREREQUISITES", 16):
+            keeper = self.run_over(office)
+        self.assertEqual((office.updates, keeper.status, len(office.lines[REVERSE[0]])), (16, 0, 250))
+        self.assertEqual(office.reads, [FORWARD[0], REVERSE[0], REVERSE[0]])
+
+    def test_unmade(self) -> None:
+        """What was made and is not there is told, and is not sent again; all else is made."""
+        office = Zones([f"h{number}.example.org. 300 IN A 192.0.2.{number}" for number in range(200)])
+        office.aliases = {"7.2.0.192.in-addr.arpa."}
+        keeper = self.run_over(office)
+        self.assertEqual((office.updates, keeper.status, len(office.lines[REVERSE[0]]), len(office.reads)), (4, 1, 199, 3))
+        self.assertEqual(keeper.words, {"7.2.0.192.in-addr.arpa.": "7.2.0.192.in-addr.arpa. is left out: its PTR went at once, or there is "
+                                        "an alias"})
 
 
 if __name__ == "__main__":

@@ -3,7 +3,7 @@
 import re
 from itertools import count
 
-from making import proved, sources
+from making import believe, proved, sources
 from making.files import read
 from making.lists import spoken
 
@@ -137,5 +137,16 @@ def numbers_of_openapi():
     yield from differing("docs/openapi.yaml", "the numbers of refusals", found, wanted)
 
 
+# What is proved
+
+def lines_to_read():
+    """How many lines the definitions of docs/made/believe.md have, where a page states it."""
+    wanted = believe.lines_of_definitions()
+    for path in "README.md", "docs/promises.md":
+        for found in re.findall(r"([\d,]+) lines of definitions", read(path)):
+            if found != wanted:
+                yield f"{path}: the top contracts reach {wanted} lines of definitions, and the page says {found}"
+
+
 AGREEMENTS = (keys_of_page, stated, defaults_of_formats, commands_of_page, usages_of_formats, rules_of_formats, chapters_of_formats,
-              routes_of_openapi, routes_of_api, numbers_of_openapi, proved.missing_chapters)
+              routes_of_openapi, routes_of_api, numbers_of_openapi, lines_to_read, proved.missing_chapters)

@@ -2,13 +2,14 @@
 
 import re
 
-from making import definitions, proved, refusals
+from making import believe, definitions, proved, refusals
 from making.files import write
 
 FOLDER = "docs/made"
 HTML = FOLDER + "/html"  # the manual
 # the pages, and what makes them
 PAGES = {
+    "believe": (FOLDER + "/believe.md", believe.page),
     "definitions": (FOLDER + "/definitions.md", definitions.page),
     "proved": (FOLDER + "/proved-tables.md", proved.page),
     "refusals": (FOLDER + "/refusals.md", refusals.page),
@@ -24,7 +25,7 @@ def unread(name):
     """A line for each chapter in which nothing stands, since nothing of its sources was read."""
     path, page = PAGES[name]
     for chapter in page().split("\n## ")[1:]:
-        if not re.search(r"^(?:- |\| )`", chapter, re.M):
+        if not re.search(r"^(?:(?:- |\| )`|```)", chapter, re.M):
             yield f"{path}: nothing is read for {chapter.splitlines()[0]}"
 
 

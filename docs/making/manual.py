@@ -13,7 +13,7 @@ from making import made, markup
 from making.files import TOP, Wrong, read, write
 
 ASSETS = "docs/making/assets"
-NAMING = {"docs/proved.md": ("definitions", "proved"), "docs/formats.md": ("refusals",)}  # the pages that name those that are made
+NAMING = {"docs/proved.md": ("believe", "definitions", "proved"), "docs/formats.md": ("refusals",)}  # the pages that name those that are made
 LINK = re.compile(r'\b(href|src)="([^"]+)"')
 
 

@@ -16,14 +16,14 @@ use clap::error::ErrorKind;
 use clap::{ArgMatches, Error};
 use std::alloc::{AllocError, Global};
 
-/// Why words are no job.
+/// Why the words ask for no job.
 #[derive(Drop)]
 pub enum WordsFault {
-    /// They ask for help, or for the version: the text that answers them.
+    /// They ask for help or for the version: the text of it.
     Help(String),
-    /// They are not understood: a text that says why.
+    /// There is a mistake in them: a text that says which.
     Misused(String),
-    /// Memory ran out. This says nothing of the words.
+    /// Memory ran out, whatever the words are.
     NoMemory,
 }
 

@@ -15,13 +15,14 @@ use Rattle.dns_data.specs.declared.record.Record.{Record}
 use Rattle.sqlite.specs.State.{State as Shown, HasCleanDisk}
 use Rattle.zone_core.specs.Zones.{ZoneOf}
 use Rattle.cli_core.specs.declared.job.Existing.{Existing}
-use Rattle.store_sql.specs.Holds.{Keeps}
+use Rattle.store_sql.specs.Holds.{Keeps, Leaves}
 use Rattle.store_rows.specs.Contents.{ContentOf}
 use Rattle.store_faults.specs.StoreFaults.{IsFailure, IsOfRows}
 use Rattle.store_faults.specs.declared.store_fault.StoreFault.{StoreFault}
 use Rattle.store_faults.specs.declared.store_fault.StoreFault.TheVariants.{WrongVersion, BadRow}
 use Rattle.office_store.specs.Holds.{IsOfVersion}
-use Rattle.office_store.specs.Migration.{HoldsOld, IsMigrated}
+use Rattle.office_store.specs.Migration.{HoldsOld, IsMigrated, IsMigratedFrom}
+use Rattle.office_store.specs.Queries.{Asked}
 use Rattle.std.specs.Prelude.{pos}
 use Rattle.cli_store.specs.Stores.{IsLeft, IsMigratedTo, IsUnmigrated, IsMigratedStore, IsReached, IsPut, IsStored, IsOpened, IsGot, IsHeld}
 
@@ -46,14 +47,17 @@ module _ (found after : Shown) where
       → (HasCleanDisk after → IfErr r (λ e. (content : ContentOf) → HoldsOld found content → IsFailure e))
       → (HasCleanDisk after → r ≡ Err WrongVersion → ¬ IsOfVersion (pos 1) found)
       → (HasCleanDisk after → r ≡ Err BadRow → IsOfVersion (pos 1) found) → IfErr r (λ e. (e ≡ WrongVersion) ⊎ IsOfRows e)
+      → OnErr r (Leaves after (λ db. found.may_leave db ⊎ IsMigratedFrom found db)) → ((r ≡ Err WrongVersion) ⊎ (r ≡ Err BadRow) → Asked found after)
       → IfErr r (IsUnmigrated found after)
-  unmigrated (Ok zones) keeps good wrong bad named = tt
-  unmigrated (Err fault) keeps good wrong bad named = record {
+  unmigrated (Ok zones) keeps good wrong bad named crash asked = tt
+  unmigrated (Err fault) keeps good wrong bad named crash asked = record {
     keeps = keeps;
     named = named;
     good = good;
     wrong = λ clean same. wrong clean (ap (λ (e : StoreFault). let r : Result ℕ StoreFault = Err e in r) same);
     bad = λ clean same. bad clean (ap (λ (e : StoreFault). let r : Result ℕ StoreFault = Err e in r) same);
+    crash = crash;
+    same = λ why. asked (elim why [ inl is ↦ inl (ap (λ (e : StoreFault). let r : Result ℕ StoreFault = Err e in r) is) | inr is ↦ inr (ap (λ (e : StoreFault). let r : Result ℕ StoreFault = Err e in r) is) ]);
   }
 
 module _ {C : Type 0} (shows : C → Shown) (finds : Bool → Type 0) (refuses : StoreFault → Type 0) (connects : C → Type 0) where
@@ -106,8 +110,10 @@ module _ {C : Type 0} (shows : C → Shown) (finds : Bool → Type 0) (refuses :
   seen_exported view word conn (Err fault) is = is
 
 -- what a service does where it does nothing, and where connections are served, said in another way
-pub told_as : (a : Around) (listen : List ℕ) (most : ℕ) (old new : Option (List ℕ)) (result : Result (Unit {0}) JobFault) (before after : ℕ) {idle other served others : Type 0}
-    → (idle → other) → (served → others) → IsServiceTold a listen most idle served old new result before after → IsServiceTold a listen most other others old new result before after
-told_as a listen most old new result before after f g (inl refused) = inl (refused.0, refused.1, refused.2, f refused.3)
-told_as a listen most old new result before after f g (inr (listener, address, heard, inl failed)) = inr (listener, address, heard, inl (failed.0, failed.1, failed.2, f failed.3))
-told_as a listen most old new result before after f g (inr (listener, address, heard, inr done)) = inr (listener, address, heard, inr (done.0, done.1, done.2, g done.3))
+pub told_as : {H : Type 0} (a : Around H) (listen : List ℕ) (most : ℕ) (cut : H → Type 0) (old new : Option (List ℕ)) (result : Result (Unit {0}) JobFault) (before after : ℕ) {idle other : Type 0}
+    {served others : Option (List ℕ) → H → H → Type 0} → (idle → other) → ((mid : Option (List ℕ)) (l m : H) → served mid l m → others mid l m)
+    → IsServiceTold a listen most cut idle served old new result before after → IsServiceTold a listen most cut other others old new result before after
+told_as a listen most cut old new result before after f g (inl refused) = inl (refused.0, refused.1, refused.2, f refused.3)
+told_as a listen most cut old new result before after f g (inr (listener, address, heard, inl failed)) = inr (listener, address, heard, inl (failed.0, failed.1, failed.2, f failed.3))
+told_as a listen most cut old new result before after f g (inr (listener, address, heard, inr done)) =
+    inr (listener, address, heard, inr (done.0, done.1, done.2, done.3, g done.0 listener done.3 done.4))

@@ -8,3 +8,5 @@ pub mod TextExamples
 pub mod ListLemmas
 pub mod LoggedLemmas
 pub mod StreamLemmas
+pub mod ServedLemmas
+pub mod StartLemmas

@@ -1,13 +1,23 @@
--- What is around the program.
-use Rattle.std.specs.Prelude.{ℕ, List, Option}
+-- What is around the program, and who calls it there.
+use Rattle.std.specs.Prelude.{ℕ, List, Option, Result}
 use Rattle.std.specs.declared.net.socket_addr.SocketAddr.{SocketAddr}
-use Rattle.std.specs.declared.net.tcp.TcpListener.{TcpListener}
+use Rattle.office_wire.specs.declared.ending.Ending.{Ending}
+use Rattle.office_wire.specs.declared.serve_fault.ServeFault.{ServeFault}
+use Rattle.office_wire.specs.Order.{Flow}
 
 -- What the files of paths hold, where it is known, and that one cannot be read; that a listener is had at an address and listens at another
--- one, as at a port that is chosen, and that there can be none; and that no further connection of a listener can be had.
-pub record Around : Type 1 where
+-- one, as at a port that is chosen, and that there can be none.
+pub record Around (H : Type 0) : Type 1 where
   pub file : List ℕ → Option (List ℕ)
   pub unreadable : List ℕ → Type 0
-  pub heard : SocketAddr → TcpListener → SocketAddr → Type 0
+  pub heard : SocketAddr → H → SocketAddr → Type 0
   pub unheard : SocketAddr → Type 0
-  pub cut : TcpListener → Type 0
+
+-- Who calls at a listener: that no further connection can be had; which peer it gives, and which it takes back, with how its connection ended;
+-- and what is known of a peer, and of the limits of its reads and writes.
+pub record Callers (H P : Type 0) : Type 1 where
+  pub cut : H → Type 0
+  pub gives : H → P → H → Type 0
+  pub ends : H → P → Result Ending ServeFault → H → Type 0
+  pub flow : P → Flow
+  pub limits : P → Option (List (Option ℕ))

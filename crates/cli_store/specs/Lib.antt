@@ -10,4 +10,5 @@ pub mod ZoneList
 pub mod StoreLog
 pub mod StoreList
 pub mod Serve
+pub mod Starts
 pub mod Program

@@ -39,7 +39,8 @@ use Rattle.cli_core.specs.Replies.{line_of, IsSent, Answered}
 use Rattle.cli_text.specs.Check.{Checked}
 use Rattle.cli_text.specs.Diff.{Differs}
 use Rattle.cli_text.specs.Plan.{IsPlanned}
-use Rattle.cli_store.specs.Around.{Around}
+use Rattle.wire_tcp.specs.Connections.{Writing}
+use Rattle.cli_store.specs.Around.{Around, Callers}
 use Rattle.cli_store.specs.Stores.{StoresOf}
 use Rattle.cli_store.specs.Import.{ImportWritten, ZoneStored}
 use Rattle.cli_store.specs.Export.{ExportWritten, ZoneExported}
@@ -57,13 +58,6 @@ pub record Reading : Type 0 where
   pub before : ℕ
   pub after : ℕ
 
--- a stream that is written: what it held before and after, and its failures before and after
-pub record Writing : Type 0 where
-  pub old : Option (List ℕ)
-  pub new : Option (List ℕ)
-  pub before : ℕ
-  pub after : ℕ
-
 -- nothing was read of it
 abbrev pub IsUnread : Reading → Type 0
 IsUnread i = (i.rest ≡ i.left) × (i.after ≡ i.before)
@@ -76,7 +70,7 @@ IsIdle o = (o.new ≡ o.old) × (o.after ≡ o.before)
 abbrev pub standard : Reading → InputOf
 standard i = record { left = i.left; fine = i.after ≡ i.before; failed = i.before < i.after }
 
-abbrev pub named : Around → List ℕ → InputOf
+abbrev pub named : {H : Type 0} → Around H → List ℕ → InputOf
 named a path = record { left = a.file path; fine = ⊤; failed = a.unreadable path }
 
 abbrev pub ended : InputOf
@@ -110,7 +104,7 @@ EndsCheck subject left fine failed o status = (outcome : Result Findings JobFaul
 
 -- The items between the zones of two files: a path that is `-` is standard input, of which nothing is left for the second file where the
 -- first is it too. Where neither is, standard input is not read.
-abbrev pub DiffersBy : Around → Reading → DiffForm → List ℕ → ZoneFiles → Writing → Result (Unit {0}) DiffFault → Type 0
+abbrev pub DiffersBy : {H : Type 0} → Around H → Reading → DiffForm → List ℕ → ZoneFiles → Writing → Result (Unit {0}) DiffFault → Type 0
 DiffersBy a i form word files o outcome =
     let differs = λ (old new : InputOf). Differs form word old new o.old o.new outcome o.before o.after in
     ((files.old.now ≢ codes "-") × (files.new.now ≢ codes "-") × IsUnread i × differs (named a files.old.now) (named a files.new.now))
@@ -128,7 +122,7 @@ requested Whole word = request_text word
 requested Split word = split_text word
 
 -- A check reads the file of its policy, or standard input where that is a zone.
-abbrev pub CheckEnds : Around → Reading → Writing → Check → ℕ → Type 0
+abbrev pub CheckEnds : {H : Type 0} → Around H → Reading → Writing → Check → ℕ → Type 0
 CheckEnds a i o (check.Policy policy) status = IsUnread i × EndsCheck Rules (a.file policy.now) ⊤ (a.unreadable policy.now) o status
 CheckEnds a i o (check.Isolation policy caller) status = IsUnread i × EndsCheck (Isolation caller) (a.file policy.now) ⊤ (a.unreadable policy.now) o status
 CheckEnds a i o (check.Rights policy name) status = IsUnread i × EndsCheck (Rights name) (a.file policy.now) ⊤ (a.unreadable policy.now) o status
@@ -137,7 +131,7 @@ CheckEnds a i o (check.Zone origin rules) status = EndsCheck (Zone origin rules)
 -- A job that needs no store reads its own input and answers to its own words, and the status is 0 exactly where it went through, and a check
 -- found nothing. What is around, standard input, standard output, the job, and the status. A job whose inputs are files, or that has none, does
 -- not read standard input.
-abbrev pub TextJobEnds : Around → Reading → Writing → TextJob → ℕ → Type 0
+abbrev pub TextJobEnds : {H : Type 0} → Around H → Reading → Writing → TextJob → ℕ → Type 0
 TextJobEnds a i o text_job.Apply status = EndsTask i.left (i.after ≡ i.before) (i.before < i.after) apply_text o status
 TextJobEnds a i o (text_job.Canon w) status = EndsTask i.left (i.after ≡ i.before) (i.before < i.after) (canon_text w.form w.origin.now) o status
 TextJobEnds a i o (text_job.Diff w) status = Ends (λ outcome. DiffersBy a i w.form w.origin.now w.files o outcome) status
@@ -150,33 +144,33 @@ TextJobEnds a i o (text_job.Check w) status = CheckEnds a i o w status
 TextJobEnds a i o (text_job.Explain w) status =
     IsUnread i × EndsTask ended.left ended.fine ended.failed (explain_text (option_map (λ n. n.now) w.number) w.form) o status
 
--- A job with a store answers to its own words, and the status is 0 exactly where it went through. What is around, the stores of paths, standard
+-- A job with a store answers to its own words, and the status is 0 exactly where it went through. What is around, who calls, the stores of paths, standard
 -- input, standard output, the trace, the job, the connection that is handed back (which shows what is left of the store that the job reached),
 -- and the status. Only an import reads standard input, and only a service writes to the trace.
-abbrev pub StoreJobEnds : {C : Type 0} → Around → StoresOf C → Reading → Writing → Writing → StoreJob → Option C → ℕ → Type 0
-StoreJobEnds a s i o t (store_job.Import w) left status =
+abbrev pub StoreJobEnds : {C H P : Type 0} → Around H → Callers H P → StoresOf C → Reading → Writing → Writing → StoreJob → Option C → ℕ → Type 0
+StoreJobEnds a p s i o t (store_job.Import w) left status =
     IsIdle t × Ends (λ outcome. ImportWritten w.zone.origin.now i.left o.old o.new outcome (i.after ≡ i.before) (i.before < i.after) o.before o.after
     × ZoneStored s w.zone.store.now w.zone.origin.now w.existing i.left left o.old o.new outcome (i.after ≡ i.before) (i.before < i.after) o.before o.after) status
-StoreJobEnds a s i o t (store_job.Export w) left status =
+StoreJobEnds a p s i o t (store_job.Export w) left status =
     IsIdle t × IsUnread i × Ends (λ outcome. ExportWritten w.zone.origin.now w.form o.old o.new outcome o.before o.after
     × ZoneExported s w.zone.store.now w.zone.origin.now w.form left o.old o.new outcome o.before o.after) status
-StoreJobEnds a s i o t (store_job.Zones w) left status =
+StoreJobEnds a p s i o t (store_job.Zones w) left status =
     IsIdle t × IsUnread i × Ends (λ outcome. ZonesPrinted s w.store.now left o.old o.new outcome o.before o.after) status
-StoreJobEnds a s i o t (store_job.Log w) left status =
+StoreJobEnds a p s i o t (store_job.Log w) left status =
     IsIdle t × IsUnread i × Ends (λ outcome. LogPrinted s w.zone.store.now w.zone.origin.now w.choice left o.old o.new outcome o.before o.after) status
-StoreJobEnds a s i o t (store_job.Migrate w) left status =
+StoreJobEnds a p s i o t (store_job.Migrate w) left status =
     IsIdle t × IsUnread i
     × Ends (λ outcome. MigrationWritten o.old o.new outcome o.before o.after × StoreMigrated s w.store.now left o.old o.new outcome o.before o.after) status
-StoreJobEnds a s i o t (store_job.Serve service) left status =
-    IsUnread i × Ends (λ outcome. Serves a s service left o.old o.new outcome o.before o.after t.old t.new t.before t.after) status
+StoreJobEnds a p s i o t (store_job.Serve service) left status =
+    IsUnread i × Ends (λ outcome. Serves a p s service left o outcome t) status
 
 -- a job that touches no store, and has no trace
 abbrev pub IsAlone : {C : Type 0} → Option C → Writing → Type 0
 IsAlone left t = (left ≡ None) × IsIdle t
 
-abbrev pub JobEnds : {C : Type 0} → Around → StoresOf C → Reading → Writing → Writing → Job → Option C → ℕ → Type 0
-JobEnds a s i o t (job.Text j) left status = IsAlone left t × TextJobEnds a i o j status
-JobEnds a s i o t (job.Store j) left status = StoreJobEnds a s i o t j left status
+abbrev pub JobEnds : {C H P : Type 0} → Around H → Callers H P → StoresOf C → Reading → Writing → Writing → Job → Option C → ℕ → Type 0
+JobEnds a p s i o t (job.Text j) left status = IsAlone left t × TextJobEnds a i o j status
+JobEnds a p s i o t (job.Store j) left status = StoreJobEnds a p s i o t j left status
 
 -- ---- words
 
@@ -193,17 +187,17 @@ EndsFault fault.NoMemory o status = ((told : ℕ) × IsToldWhole (line_of NoMemo
 
 -- There is no mistake in the words, and the job that they ask for is done; or they ask for help, are misused, or there is no memory for them,
 -- and nothing is read and no store touched.
-abbrev pub WordsEnd : {C : Type 0} → Around → StoresOf C → Reading → Writing → Writing → List (List ℕ) → Option C → ℕ → Type 0
-WordsEnd a s i o t words left status =
-    ((asked : Job) × (fault_of office words ≡ []) × (job_of words ≡ Some (asks asked)) × JobEnds a s i o t asked left status)
+abbrev pub WordsEnd : {C H P : Type 0} → Around H → Callers H P → StoresOf C → Reading → Writing → Writing → List (List ℕ) → Option C → ℕ → Type 0
+WordsEnd a p s i o t words left status =
+    ((asked : Job) × (fault_of office words ≡ []) × (job_of words ≡ Some (asks asked)) × JobEnds a p s i o t asked left status)
     ⊎ ((refused : WordsFault) × IsReported words refused × EndsFault refused o status × IsAlone left t × IsUnread i)
 
 -- ---- the streams of the process
 
 -- The connection that is handed back, what there was to read before and after, what standard output and the trace held before and after, the
 -- words, and the status: so the words end, with some failures of each stream.
-abbrev pub IsRun : {C : Type 0} → Around → StoresOf C → Option C → Option (List ℕ) → Option (List ℕ) → Option (List ℕ) → Option (List ℕ) → Option (List ℕ) → Option (List ℕ) → List (List ℕ) → ℕ → Type 0
-IsRun a s conn left rest old new trace trace_after words status =
+abbrev pub IsRun : {C H P : Type 0} → Around H → Callers H P → StoresOf C → Option C → Option (List ℕ) → Option (List ℕ) → Option (List ℕ) → Option (List ℕ) → Option (List ℕ) → Option (List ℕ) → List (List ℕ) → ℕ → Type 0
+IsRun a p s conn left rest old new trace trace_after words status =
     (reads : ℕ) × (writes : ℕ) × (fails : ℕ)
-    × WordsEnd a s (record { left = left; rest = rest; before = 0; after = reads }) (record { old = old; new = new; before = 0; after = writes })
+    × WordsEnd a p s (record { left = left; rest = rest; before = 0; after = reads }) (record { old = old; new = new; before = 0; after = writes })
     (record { old = trace; new = trace_after; before = 0; after = fails }) words conn status

@@ -1,20 +1,16 @@
 -- Serving callers from a store: where it listens, by which policy, and what is written.
-use Rattle.std.specs.Prelude.{◌≡◌, ◌⊎◌, ⊤, ℕ, ◌<◌, ◌≤◌, List, ◌∷◌, [], ◌++◌, codes, length, Option, None, Result, Ok, Err, unwrap_or}
+use Rattle.std.specs.Prelude.{◌≡◌, ◌⊎◌, ⊤, ℕ, ◌*◌, ◌<◌, List, ◌∷◌, [], ◌++◌, codes, Option, None, option_map, Result, Ok, Err, unwrap_or}
 use Rattle.std.specs.Io.KnownBytes.{Appends}
 use Rattle.std.specs.Net.Grammar.{IsSocketText}
 use Rattle.std.specs.Net.Text.{socket_text}
 use Rattle.std.specs.declared.net.socket_addr.SocketAddr.{SocketAddr}
-use Rattle.std.specs.declared.net.tcp.TcpListener.{TcpListener}
 use Rattle.grant_policy.specs.declared.rule.Rule.{Rule}
 use Rattle.grant_policy.specs.Documents.{document_of}
 use Rattle.grant_policy.specs.Reading.{policy_of}
 use Rattle.office_wire.specs.declared.serve_fault.ServeFault.{ServeFault}
 use Rattle.store_faults.specs.declared.store_fault.StoreFault.{StoreFault}
-use Rattle.office_model.specs.States.{State}
-use Rattle.office_wire.specs.Exchange.{Run}
-use Rattle.office_wire.specs.Promises.{ArePromised}
-use Rattle.office_wire.specs.Serving.{standing}
-use Rattle.wire_tcp.specs.Connections.{Visit, joined, AreReported, AreTraced}
+use Rattle.wire_tcp.specs.Limits.{patience_in}
+use Rattle.wire_tcp.specs.Connections.{Asked, Parties, Writing, AreReported, AreServedFrom}
 use Rattle.cli_core.specs.declared.commands.serve.Service.{Service}
 use Rattle.cli_core.specs.declared.refusal.Refusal.{Refusal}
 use Rattle.cli_core.specs.LineFaults.{◌>>=◌, limited, of_policies, of_store, Makes, GivesOf}
@@ -25,8 +21,8 @@ use Rattle.cli_core.specs.declared.line_fault.JobFault.TheVariants.{WriteFailed}
 use Rattle.cli_core.specs.Device.{AppendsFront}
 use Rattle.cli_core.specs.Replies.{IsRefusalWritten}
 use Rattle.sqlite.specs.State.{State as Shown, HasCleanDisk}
-use Rattle.office_store.specs.Holds.{HoldsState}
-use Rattle.cli_store.specs.Around.{Around}
+use Rattle.office_store.specs.Holds.{HoldsState, LeavesStates}
+use Rattle.cli_store.specs.Around.{Around, Callers}
 use Rattle.cli_store.specs.Stores.{StoresOf, IsLeft, IsOpened, IsUnopened}
 
 -- what is read of a policy's text: its rules, or a refusal
@@ -44,70 +40,90 @@ abbrev pub listening_line : SocketAddr → List ℕ
 listening_line address = codes "listening " ++ socket_text address ++ 10 ∷ []
 
 -- the listener was had at the address that the word is, and listens at this one
-abbrev pub IsHeard : Around → List ℕ → TcpListener → SocketAddr → Type 0
+abbrev pub IsHeard : {H : Type 0} → Around H → List ℕ → H → SocketAddr → Type 0
 IsHeard a listen listener address = (asked : SocketAddr) × IsSocketText listen asked × a.heard asked listener address
 
 -- the address is one, and there can be no listener at it
-abbrev pub IsUnheard : Around → List ℕ → Type 0
+abbrev pub IsUnheard : {H : Type 0} → Around H → List ℕ → Type 0
 IsUnheard a listen = (address : SocketAddr) × IsSocketText listen address × a.unheard address
 
 -- why there is no listener: the word is no address, there can be none at it, or memory ran out
-abbrev pub IsNoListener : Around → List ℕ → LineFault → Type 0
+abbrev pub IsNoListener : {H : Type 0} → Around H → List ℕ → LineFault → Type 0
 IsNoListener a listen (Refused refusal) = ⊥
 IsNoListener a listen ReadFailed = ((address : SocketAddr) → ¬ IsSocketText listen address) ⊎ IsUnheard a listen
 IsNoListener a listen NoMemory = Unit {0}
 
--- So many connections were served: as many as were asked for, unless one could not be had or a line not be written.
-abbrev pub IsSoMany : ℕ → Result (Unit {0}) JobFault → ℕ → Type 0
-IsSoMany most (Ok u) n = n ≡ most
-IsSoMany most (Err fault) n = n ≤ most
+-- ---- from a store
 
--- That the store has kept its word, the states that the table held before and holds after, its failures before and after, the rules, how many
--- connections were asked for, the answer, what the writer of traces held before and after, and its failures before and after. Whatever
--- connections come: where the store has kept its word, there are turns of all of them, one connection after the other, that take the table
--- from how it stood to how it stands; each is answered by the policy and the state that it found, and what the office promises of calls holds
--- of all of them together. The trace tells of those of these turns that were answered SERVFAIL.
-abbrev pub AreServedOn : Type 0 → (State → Type 0) → (State → Type 0) → ℕ → ℕ → List Rule → ℕ → Result (Unit {0}) JobFault → Option (List ℕ) → Option (List ℕ) → ℕ → ℕ → Type 0
-AreServedOn honest held holds failures failures_after rules most result old new fails fails_after =
-    honest → (s : State) → held s → (visits : List Visit) × (t : State) × holds t
-    × Run rules (standing s failures) (joined visits) (standing t failures_after) × ArePromised rules s (joined visits) t
-    × IsSoMany most result (length visits) × AreTraced visits (record { old = old; new = new; before = fails; after = fails_after })
+-- a store's table: the connection to it, how many of its calls have failed, and why the last of them did
+pub record TableAt (C : Type 0) : Type 0 where
+  pub conn : C
+  pub failures : ℕ
+  pub fault : Option StoreFault
 
--- What is around, the word that says where to listen, how many connections are asked for, that nothing was done, that connections were served,
--- what the writer held before and after, the answer, and the writer's failures before and after. The line of why there is no listener is
--- written, and nothing is done; or the line of the address at which a listener was had that the word asks for, and then connections were served,
--- and theirs are written: fewer than asked for only where that listener has no further one.
-abbrev pub IsServiceTold : Around → List ℕ → ℕ → Type 0 → Type 0 → Option (List ℕ) → Option (List ℕ) → Result (Unit {0}) JobFault → ℕ → ℕ → Type 0
-IsServiceTold a listen most idle served old new result before after =
+-- who calls, and the table that is asked: it holds the state that its connection shows, and a crash leaves what it leaves of that
+abbrev pub parties_of : {C H P : Type 0} → (C → Shown) → Callers H P → Parties (TableAt C) H P
+parties_of shows p = record {
+  holds = λ t. HoldsState (shows t.conn);
+  leaves = λ t. LeavesStates (shows t.conn);
+  failures = λ t. t.failures;
+  fault = λ t. t.fault;
+  gives = p.gives;
+  ends = p.ends;
+  flow = p.flow;
+  limits = p.limits;
+}
+
+-- what the words ask for: so many connections, answered by these rules, and each peer waited for so long
+abbrev pub asked_by : Service → List Rule → Type 0 → Asked
+asked_by service rules cut = record {
+  rules = rules;
+  patience = option_map (λ n. n * 1000000000) (patience_in service.patience);
+  most = most_of service;
+  cut = cut;
+}
+
+-- What is around, the word that says where to listen, how many connections are asked for, when a listener has no further one, that nothing was
+-- done, that connections of a listener were served (what the writer held then, and the listener before and after), what the writer held before
+-- and after, the answer, and the writer's failures before and after. The line of why there is no listener is written, and nothing is done; or
+-- the line of the address at which a listener was had that the word asks for, and then its connections were served, and their lines are
+-- written: fewer than asked for only where that listener has no further one.
+abbrev pub IsServiceTold : {H : Type 0} → Around H → List ℕ → ℕ → (H → Type 0) → Type 0 → (Option (List ℕ) → H → H → Type 0) → Option (List ℕ) → Option (List ℕ) → Result (Unit {0}) JobFault → ℕ → ℕ → Type 0
+IsServiceTold {H} a listen most cut idle served old new result before after =
     ((fault : LineFault) × IsNoListener a listen fault × IsRefusalWritten old new fault result before after × idle)
-    ⊎ ((listener : TcpListener) × (address : SocketAddr) × IsHeard a listen listener address
+    ⊎ ((listener : H) × (address : SocketAddr) × IsHeard a listen listener address
     × (((result ≡ Err WriteFailed) × AppendsFront old new (listening_line address) × (before < after) × idle)
     ⊎ ((mid : Option (List ℕ)) × Appends old mid (listening_line address)
-    × ((ends : List (Option ServeFault)) × AreReported (a.cut listener) most ends mid new result before after) × served)))
+    × ((ends : List (Option ServeFault)) × AreReported (cut listener) most ends mid new result before after)
+    × (listener_after : H) × served mid listener listener_after)))
 
--- What connections show, what is around, the words, the rules, the connection to the store when it was opened and when it is handed back, what
--- the writer held before and after, the answer, its failures before and after, what the writer of traces held before and after, and its
--- failures before and after: connections were served from this store by these rules, or it is as it was.
-pub record IsServedBy {C : Type 0} (shows : C → Shown) (a : Around) (service : Service) (rules : List Rule) (now after : C) (old new : Option (List ℕ)) (result : Result (Unit {0}) JobFault) (writes writes_after : ℕ) (trace trace_after : Option (List ℕ)) (fails fails_after : ℕ) : Type 0 where
+-- What connections show, what is around, who calls, the words, the rules, the connection to the store when it was opened and when it is handed
+-- back, what was written, the answer, and what was written of failures. Whatever connections come: where the store has kept its word,
+-- they were served from this store by these rules, one after the other; or it is as it was.
+pub record IsServedBy {C H P : Type 0} (shows : C → Shown) (a : Around H) (p : Callers H P) (service : Service) (rules : List Rule) (now after : C) (o : Writing) (result : Result (Unit {0}) JobFault) (t : Writing) : Type 0 where
   pub honest : HasCleanDisk (shows after) → HasCleanDisk (shows now)
-  pub failures : ℕ
-  pub failures_after : ℕ
-  pub told : IsServiceTold a service.listen.now (most_of service) ((after ≡ now) × (trace_after ≡ trace) × (fails_after ≡ fails))
-      (AreServedOn (HasCleanDisk (shows after)) (HoldsState (shows now)) (HoldsState (shows after)) failures failures_after rules (most_of service) result trace trace_after fails fails_after) old new result writes writes_after
+  pub before : TableAt C
+  pub before_is : before.conn ≡ now
+  pub left : TableAt C
+  pub left_is : left.conn ≡ after
+  pub told : IsServiceTold a service.listen.now (most_of service) p.cut ((after ≡ now) × (t.new ≡ t.old) × (t.after ≡ t.before))
+      (λ mid listener listener_after. HasCleanDisk (shows after) → AreServedFrom (parties_of shows p) (asked_by service rules (p.cut listener)) before listener left listener_after result
+      (record { old = mid; new = o.new; before = o.before; after = o.after }) t)
+      o.old o.new result o.before o.after
 
 -- The stores of paths, the words, the rules, the connection that is handed back, and the rest as above: the store of the path is refused, and
 -- that is told; or it is opened, and connections are served from it by these rules.
-abbrev pub BeginsBy : {C : Type 0} → Around → StoresOf C → Service → List Rule → Option C → Option (List ℕ) → Option (List ℕ) → Result (Unit {0}) JobFault → ℕ → ℕ → Option (List ℕ) → Option (List ℕ) → ℕ → ℕ → Type 0
-BeginsBy {C} a s service rules left old new result before after trace trace_after fails fails_after =
+abbrev pub BeginsBy : {C H P : Type 0} → Around H → Callers H P → StoresOf C → Service → List Rule → Option C → Writing → Result (Unit {0}) JobFault → Writing → Type 0
+BeginsBy {C} a p s service rules left o result t =
     ((refusal : StoreFault) × IsUnopened s.shows (s.finds service.store.now) (s.refuses service.store.now) (s.connects service.store.now) left refusal
-    × IsRefusalWritten old new (of_store refusal) result before after × (trace_after ≡ trace) × (fails_after ≡ fails))
+    × IsRefusalWritten o.old o.new (of_store refusal) result o.before o.after × (t.new ≡ t.old) × (t.after ≡ t.before))
     ⊎ ((now : C) × IsOpened s.shows (s.connects service.store.now) now
-    × IsLeft left (λ then. IsServedBy s.shows a service rules now then old new result before after trace trace_after fails fails_after))
+    × IsLeft left (λ then. IsServedBy s.shows a p service rules now then o result t))
 
 -- The same behind the policy: it is refused, or not read, and that is told, with no store touched; or its rules were read.
-abbrev pub Serves : {C : Type 0} → Around → StoresOf C → Service → Option C → Option (List ℕ) → Option (List ℕ) → Result (Unit {0}) JobFault → ℕ → ℕ → Option (List ℕ) → Option (List ℕ) → ℕ → ℕ → Type 0
-Serves a s service left old new result before after trace trace_after fails fails_after =
+abbrev pub Serves : {C H P : Type 0} → Around H → Callers H P → StoresOf C → Service → Option C → Writing → Result (Unit {0}) JobFault → Writing → Type 0
+Serves a p s service left o result t =
     ((fault : LineFault) × GivesOf {X = List Rule} (λ rules. rules) (a.file service.policy.now) policy_read (Err fault) ⊤ (a.unreadable service.policy.now)
-    × IsRefusalWritten old new fault result before after × (left ≡ None) × (trace_after ≡ trace) × (fails_after ≡ fails))
+    × IsRefusalWritten o.old o.new fault result o.before o.after × (left ≡ None) × (t.new ≡ t.old) × (t.after ≡ t.before))
     ⊎ ((rules : List Rule) × Makes (a.file service.policy.now) policy_read (Ok rules)
-    × BeginsBy a s service rules left old new result before after trace trace_after fails fails_after)
+    × BeginsBy a p s service rules left o result t)

@@ -13,7 +13,7 @@ use Rattle.store_faults.specs.StoreFaults.{IsFailure, IsOfRows, Gives}
 use Rattle.store_faults.specs.declared.store_fault.StoreFault.{StoreFault}
 use Rattle.store_faults.specs.declared.store_fault.StoreFault.TheVariants.{NoZone, WrongVersion, BadRow}
 use Rattle.office_store.specs.Holds.{HoldsState, HasNone, HasVersion, IsOfVersion, IsStateIn, LeavesStates}
-use Rattle.office_store.specs.Migration.{HoldsOld, IsMigrated}
+use Rattle.office_store.specs.Migration.{HoldsOld, IsMigrated, IsMigratedFrom}
 use Rattle.office_store.specs.Queries.{Asked, AsksOnly, Only}
 use Rattle.office_store.specs.Turns.{Turns}
 use Rattle.office_store.specs.Zones.{exported}
@@ -52,11 +52,12 @@ stores_of shows finds refuses connects = record { shows = shows; finds = finds; 
 
 -- ---- what a connection shows
 
--- It was connected to showing found, and shows exactly the state that was there.
+-- It was connected to showing found, and shows exactly the state that was there; and a crash leaves what was committed.
 pub record IsAdopted (found now : Shown) : Type 0 where
   pub holds : HasCleanDisk now → (s : State) × HoldsState now s × LeavesStates now s s
   pub asked : Asked found now
   pub only : HasCleanDisk now → Only found now
+  pub left : Leaves now (λ db. db ≡ now.committed.trees)
 
 -- Why it is no store: of a state only that the store failed or memory ran out; else the tables are not those of this version, or their
 -- rows are no state. It shows what it showed.
@@ -87,13 +88,16 @@ abbrev pub IsMigratedTo : Shown → Shown → ℕ → Type 0
 IsMigratedTo found after zones = HasCleanDisk after → IsMigrated found after zones
 
 -- Why it was not migrated: of rows of version 1 only that the store failed or memory ran out; else the tables are not those of version
--- 1, or their rows are not as a program of that version wrote them. It shows what it showed.
+-- 1, or their rows are not as a program of that version wrote them. It shows what it showed. A crash leaves what it left before, or what was
+-- held migrated; and where the tables or rows are wrong, only what it left before.
 pub record IsUnmigrated (found after : Shown) (fault : StoreFault) : Type 0 where
   pub keeps : Keeps found after
   pub named : (fault ≡ WrongVersion) ⊎ IsOfRows fault
   pub good : HasCleanDisk after → (content : ContentOf) → HoldsOld found content → IsFailure fault
   pub wrong : HasCleanDisk after → fault ≡ WrongVersion → ¬ IsOfVersion (pos 1) found
   pub bad : HasCleanDisk after → fault ≡ BadRow → IsOfVersion (pos 1) found
+  pub crash : Leaves after (λ db. found.may_leave db ⊎ IsMigratedFrom found db)
+  pub same : (fault ≡ WrongVersion) ⊎ (fault ≡ BadRow) → Asked found after
 
 -- ---- what is done there, by what connections show
 

@@ -8,7 +8,7 @@ use cli_core::LineFault;
 use dns_master::DeviceFailed;
 use std::alloc::{AllocError, Global};
 use std::cell::RefCell;
-use std::net::{SocketAddr, TcpListener, TcpStream};
+use std::net::SocketAddr;
 
 /// A file that was read.
 #[derive(Drop)]
@@ -77,6 +77,8 @@ impl<'a, M> KeptFiles<'a, M> {
 impl<M: Surroundings> Surroundings for KeptFiles<'_, M> {
     type Clock = M::Clock;
 
+    type Listener = M::Listener;
+
     ghost around = { λ kept. M.around kept.around.now };
 
     fn alloc(&self) -> Global {
@@ -99,11 +101,7 @@ impl<M: Surroundings> Surroundings for KeptFiles<'_, M> {
         read
     }
 
-    fn listen(&self, address: SocketAddr) -> Result<(TcpListener, SocketAddr), DeviceFailed> {
+    fn listen(&self, address: SocketAddr) -> Result<(M::Listener, SocketAddr), DeviceFailed> {
         self.around.listen(address)
-    }
-
-    fn accept(&self, listener: &TcpListener) -> Result<TcpStream, DeviceFailed> {
-        self.around.accept(listener)
     }
 }

@@ -261,7 +261,9 @@ fn done<M: Surroundings, S: Alter + Drop, P: StoreFiles<S> + Drop, R: Source, W:
     output: &mut W,
     trace: &mut E,
 ) -> (Option<Connection<S>>, Result<(), JobFault>)
-    ensures { StoreJobEnds (M.around around.now) (stores_of (state S.Store) (P.finds files) (P.refuses files) (P.connects files))
+    ensures { StoreJobEnds (M.around around.now)
+        (record { cut = M.Listener.cut; gives = M.Listener.gives; ends = M.Listener.ends; flow = M.Listener.Peer.flow; limits = M.Listener.Peer.limits })
+        (stores_of (state S.Store) (P.finds files) (P.refuses files) (P.connects files))
         (record { left = R.remaining input.old; rest = R.remaining input.new; before = R.failures input.old; after = R.failures input.new })
         (record { old = W.contents output.old; new = W.contents output.new; before = W.failures output.old; after = W.failures output.new })
         (record { old = E.contents trace.old; new = E.contents trace.new; before = E.failures trace.old; after = E.failures trace.new }) job.entry result.0
@@ -298,7 +300,9 @@ pub fn do_store_job<
     trace: &mut E,
 ) -> (Option<Connection<S>>, ExitCode)
     // Each job answers to its own words, and what the connection shows is what it left of the store of its path.
-    ensures { StoreJobEnds (M.around around.now) (stores_of (state S.Store) (P.finds files) (P.refuses files) (P.connects files))
+    ensures { StoreJobEnds (M.around around.now)
+        (record { cut = M.Listener.cut; gives = M.Listener.gives; ends = M.Listener.ends; flow = M.Listener.Peer.flow; limits = M.Listener.Peer.limits })
+        (stores_of (state S.Store) (P.finds files) (P.refuses files) (P.connects files))
         (record { left = R.remaining input.old; rest = R.remaining input.new; before = R.failures input.old; after = R.failures input.new })
         (record { old = W.contents output.old; new = W.contents output.new; before = W.failures output.old; after = W.failures output.new })
         (record { old = E.contents trace.old; new = E.contents trace.new; before = E.failures trace.old; after = E.failures trace.new }) job.entry result.0
@@ -324,7 +328,9 @@ pub fn do_job<
     output: &mut W,
     trace: &mut E,
 ) -> (Option<Connection<S>>, ExitCode)
-    ensures { JobEnds (M.around around.now) (stores_of (state S.Store) (P.finds files) (P.refuses files) (P.connects files))
+    ensures { JobEnds (M.around around.now)
+        (record { cut = M.Listener.cut; gives = M.Listener.gives; ends = M.Listener.ends; flow = M.Listener.Peer.flow; limits = M.Listener.Peer.limits })
+        (stores_of (state S.Store) (P.finds files) (P.refuses files) (P.connects files))
         (record { left = R.remaining input.old; rest = R.remaining input.new; before = R.failures input.old; after = R.failures input.new })
         (record { old = W.contents output.old; new = W.contents output.new; before = W.failures output.old; after = W.failures output.new })
         (record { old = E.contents trace.old; new = E.contents trace.new; before = E.failures trace.old; after = E.failures trace.new }) job.entry result.0
@@ -386,7 +392,9 @@ pub fn do_words<
     output: &mut W,
     trace: &mut E,
 ) -> (Option<Connection<S>>, ExitCode)
-    ensures { WordsEnd (M.around around.now) (stores_of (state S.Store) (P.finds files) (P.refuses files) (P.connects files))
+    ensures { WordsEnd (M.around around.now)
+        (record { cut = M.Listener.cut; gives = M.Listener.gives; ends = M.Listener.ends; flow = M.Listener.Peer.flow; limits = M.Listener.Peer.limits })
+        (stores_of (state S.Store) (P.finds files) (P.refuses files) (P.connects files))
         (record { left = R.remaining input.old; rest = R.remaining input.new; before = R.failures input.old; after = R.failures input.new })
         (record { old = W.contents output.old; new = W.contents output.new; before = W.failures output.old; after = W.failures output.new })
         (record { old = E.contents trace.old; new = E.contents trace.new; before = E.failures trace.old; after = E.failures trace.new })

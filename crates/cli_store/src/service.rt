@@ -1,17 +1,19 @@
 //! The job `serve`: a policy, a store, and a listener.
 
-ghost use Rattle.std.specs.Prelude.{◌≡◌, ◌<◌, ⊤, List, Option, IfErr, IfOk, string_bytes};
+ghost use Rattle.std.specs.Prelude.{◌≡◌, ◌*◌, ◌<◌, ⊤, List, Option, IfErr, IfOk, option_map, string_bytes};
+ghost use Rattle.std.specs.Duration.{as_nanos};
 ghost use Rattle.std.specs.declared.net.socket_addr.SocketAddr.{SocketAddr};
 ghost use Rattle.office_wire.specs.declared.serve_fault.ServeFault.{ServeFault as FaultOf};
 ghost use Rattle.sqlite.specs.Held.{state};
 ghost use Rattle.cli_core.specs.LineFaults.{GivesOf};
 ghost use Rattle.cli_store.specs.Stores.{stores_of};
-ghost use Rattle.wire_tcp.specs.Connections.{AreReported};
-ghost use Rattle.cli_store.specs.Serve.{policy_read, most_of, listening_line, AreServedOn, IsHeard, IsNoListener, IsServiceTold, IsServedBy, BeginsBy, Serves};
+ghost use Rattle.wire_tcp.specs.Limits.{patience_in};
+ghost use Rattle.wire_tcp.specs.Connections.{AreReported, AreServedFrom};
+ghost use Rattle.cli_store.specs.Serve.{policy_read, most_of, listening_line, IsHeard, IsNoListener, IsServiceTold, IsServedBy, BeginsBy, Serves};
 
 use crate::diagnosis::Remembered;
 use crate::files::StoreFiles;
-use crate::listening::CountedListener;
+use crate::listening::{CountedListener, Socket};
 use crate::store_file::open_store;
 use crate::surroundings::Surroundings;
 use cli_core::{JobFault, LineFault, Service, write_refusal, write_text};
@@ -22,8 +24,9 @@ use office_store::SqlTable;
 use sqlite::{Alter, Connection};
 use std::alloc::{AllocError, Global};
 use std::marker::Brand;
-use std::net::{SocketAddr, TcpListener};
+use std::net::SocketAddr;
 use std::sync::ledger::{Blank, Ledger};
+use std::time::Clock;
 use wire_tcp::{Connections, Diagnosis, longest_of, patience_of};
 
 /// The policy of a path.
@@ -64,7 +67,7 @@ fn complain_unheard<M: Surroundings>(around: &M, listen: &str) {
 fn listener_at<M: Surroundings>(
     around: &M,
     listen: &str,
-) -> Result<(TcpListener, SocketAddr), LineFault>
+) -> Result<(M::Listener, SocketAddr), LineFault>
     ensures heard { IfOk result (λ heard. IsHeard (M.around around.now) listen.now heard.0 heard.1) }
     ensures refused { IfErr result (IsNoListener (M.around around.now) listen.now) }
 {
@@ -82,7 +85,7 @@ fn listener_at<M: Surroundings>(
 pub fn listening_at<M: Surroundings>(
     around: &M,
     listen: &str,
-) -> Result<(TcpListener, String), LineFault>
+) -> Result<(M::Listener, String), LineFault>
     // The line is of the address at which this listener listens, which was had at the one that the word is.
     ensures told { IfOk result
         (λ listening. (address : SocketAddr) × IsHeard (M.around around.now) listen.now listening.0 address × (string_bytes listening.1 ≡ listening_line address)) }
@@ -109,6 +112,8 @@ fn connections_of<'a, M: Surroundings, D>(
 ) -> Connections<'a, M::Clock, D>
     ensures policy { result.policy.now ≡ policy.now }
     ensures most { result.most ≡ most_of service.now }
+    ensures patience { option_map as_nanos result.patience ≡ option_map (λ n. n * 1_000_000_000) (patience_in service.now.patience) }
+    ensures diagnosis { result.diagnosis.now ≡ diagnosis.now }
 {
     Connections {
         alloc: around.alloc(),
@@ -122,26 +127,52 @@ fn connections_of<'a, M: Surroundings, D>(
 }
 
 /// Serves connections of a listener from a table.
-fn serve_listening<M: Surroundings, L: Ledger, T: ZoneTable, D: Diagnosis<T>, W: Sink, E: Sink>(
-    listening: (&M, &TcpListener, Blank),
-    connections: &Connections<'_, M::Clock, D>,
+fn serve_listening<
+    C: Clock,
+    K: Socket + Drop,
+    L: Ledger,
+    T: ZoneTable,
+    D: Diagnosis<T>,
+    W: Sink,
+    E: Sink,
+>(
+    connections: &Connections<'_, C, D>,
+    socket: K,
+    blank: Blank,
     table: &mut T,
     writer: &mut W,
     trace: &mut E,
 ) -> Result<(), JobFault>
-    requires name { listening.2.name ≡ L.name }
-    requires parts { listening.2.parts ≡ L.parts }
-    requires some { 0 < listening.2.parts }
-    ensures served { AreServedOn (T.is_honest table.new) (T.holds table.old) (T.holds table.new) (T.failures table.old)
-        (T.failures table.new) connections.now.policy.now connections.now.most result (E.contents trace.old) (E.contents trace.new)
-        (E.failures trace.old) (E.failures trace.new) }
+    requires name { blank.name ≡ L.name }
+    requires parts { blank.parts ≡ L.parts }
+    requires some { 0 < blank.parts }
+    ensures served { (after : K)
+        ×
+        (T.is_honest table.new → AreServedFrom
+        (record {
+          holds = T.holds;
+          leaves = T.leaves;
+          failures = T.failures;
+          fault = D.fault connections.now.diagnosis.now;
+          gives = K.gives;
+          ends = K.ends;
+          flow = K.Peer.flow;
+          limits = K.Peer.limits;
+        })
+        (record { rules = connections.now.policy.now; patience = option_map as_nanos connections.now.patience; most = connections.now.most; cut = K.cut socket })
+        table.old socket table.new after result
+        (record { old = W.contents writer.old; new = W.contents writer.new; before = W.failures writer.old; after = W.failures writer.new })
+        (record { old = E.contents trace.old; new = E.contents trace.new; before = E.failures trace.old; after = E.failures trace.new })) }
     ensures honest { T.is_honest table.new → T.is_honest table.old }
     ensures written { (ends : List (Option FaultOf))
-        × AreReported ((M.around listening.entry.0.now).cut listening.entry.1.now) connections.now.most ends (W.contents writer.old) (W.contents writer.new) result
-        (W.failures writer.old) (W.failures writer.new) }
+        × AreReported (K.cut socket) connections.now.most ends (W.contents writer.old) (W.contents writer.new) result (W.failures writer.old)
+        (W.failures writer.new) }
 {
-    let (around, listener, blank) = listening;
-    let mut listener: CountedListener<'_, M, L> = CountedListener::new(around, listener, blank);
+    let mut listener: CountedListener<'_, C, K, L> = CountedListener::new(
+        connections.clock,
+        socket,
+        blank,
+    );
     connections.serve(&mut listener, table, writer, trace)
 }
 
@@ -154,11 +185,28 @@ fn serve_table<M: Surroundings, T: ZoneTable, D: Diagnosis<T>, W: Sink, E: Sink>
     writer: &mut W,
     trace: &mut E,
 ) -> Result<(), JobFault>
-    ensures told { IsServiceTold (M.around around.now) listen.now connections.now.most
+    ensures told { IsServiceTold (M.around around.now) listen.now connections.now.most M.Listener.cut
         ((table.new ≡ table.old) × (E.contents trace.new ≡ E.contents trace.old) × (E.failures trace.new ≡ E.failures trace.old))
-        (AreServedOn (T.is_honest table.new) (T.holds table.old) (T.holds table.new) (T.failures table.old)
-        (T.failures table.new) connections.now.policy.now connections.now.most result (E.contents trace.old) (E.contents trace.new)
-        (E.failures trace.old) (E.failures trace.new))
+        (λ mid listener after. T.is_honest table.new → AreServedFrom
+        (record {
+          holds = T.holds;
+          leaves = T.leaves;
+          failures = T.failures;
+          fault = D.fault connections.now.diagnosis.now;
+          gives = M.Listener.gives;
+          ends = M.Listener.ends;
+          flow = M.Listener.Peer.flow;
+          limits = M.Listener.Peer.limits;
+        })
+        (record {
+          rules = connections.now.policy.now;
+          patience = option_map as_nanos connections.now.patience;
+          most = connections.now.most;
+          cut = M.Listener.cut listener;
+        })
+        table.old listener table.new after result
+        (record { old = mid; new = W.contents writer.new; before = W.failures writer.old; after = W.failures writer.new })
+        (record { old = E.contents trace.old; new = E.contents trace.new; before = E.failures trace.old; after = E.failures trace.new }))
         (W.contents writer.old) (W.contents writer.new) result (W.failures writer.old) (W.failures writer.new) }
     ensures honest { T.is_honest table.new → T.is_honest table.old }
 {
@@ -167,8 +215,8 @@ fn serve_table<M: Surroundings, T: ZoneTable, D: Diagnosis<T>, W: Sink, E: Sink>
         Err(fault) => return Err(write_refusal(around.alloc(), writer, fault)),
     };
     write_text(writer, text.as_bytes())?;
-    let listening = (around, &listener, Blank::new(1));
-    serve_listening::<M, Brand, T, D, W, E>(listening, connections, table, writer, trace)
+    let blank = Blank::new(1);
+    serve_listening::<_, _, Brand, T, D, W, E>(connections, listener, blank, table, writer, trace)
 }
 
 /// Serves connections from the table of a store, and hands its connection back.
@@ -180,9 +228,11 @@ fn serve_opened<M: Surroundings, S: Alter + Drop, L: Ledger, W: Sink, E: Sink>(
     writer: &mut W,
     trace: &mut E,
 ) -> (Connection<S>, Result<(), JobFault>)
-    ensures { IsServedBy (state S.Store) (M.around around.now) service.entry policy.now table.conn result.0 (W.contents writer.old)
-        (W.contents writer.new) result.1 (W.failures writer.old) (W.failures writer.new) (E.contents trace.old) (E.contents trace.new)
-        (E.failures trace.old) (E.failures trace.new) }
+    ensures { IsServedBy (state S.Store) (M.around around.now)
+        (record { cut = M.Listener.cut; gives = M.Listener.gives; ends = M.Listener.ends; flow = M.Listener.Peer.flow; limits = M.Listener.Peer.limits })
+        service.entry policy.now table.conn result.0
+        (record { old = W.contents writer.old; new = W.contents writer.new; before = W.failures writer.old; after = W.failures writer.new }) result.1
+        (record { old = E.contents trace.old; new = E.contents trace.new; before = E.failures trace.old; after = E.failures trace.new }) }
 {
     let mut table = table;
     let connections = connections_of(around, &service, policy, &Remembered);
@@ -212,9 +262,10 @@ fn serve_by<M: Surroundings, S: Alter + Drop, P: StoreFiles<S> + Drop, L: Ledger
     requires parts { blank.parts ≡ L.parts }
     requires some { 0 < blank.parts }
     ensures { BeginsBy (M.around around.now)
+        (record { cut = M.Listener.cut; gives = M.Listener.gives; ends = M.Listener.ends; flow = M.Listener.Peer.flow; limits = M.Listener.Peer.limits })
         (stores_of (state S.Store) (P.finds files) (P.refuses files) (P.connects files)) service.entry policy.now result.0
-        (W.contents writer.old) (W.contents writer.new) result.1 (W.failures writer.old) (W.failures writer.new) (E.contents trace.old)
-        (E.contents trace.new) (E.failures trace.old) (E.failures trace.new) }
+        (record { old = W.contents writer.old; new = W.contents writer.new; before = W.failures writer.old; after = W.failures writer.new }) result.1
+        (record { old = E.contents trace.old; new = E.contents trace.new; before = E.failures trace.old; after = E.failures trace.new }) }
 {
     let alloc = around.alloc();
     let opened: Result<SqlTable<S, L>, _> = open_store(alloc, files, service.store, blank);
@@ -243,10 +294,13 @@ pub fn serve<M: Surroundings, S: Alter + Drop, P: StoreFiles<S> + Drop, W: Sink,
     trace: &mut E,
 ) -> (Option<Connection<S>>, Result<(), JobFault>)
     // The line of the first refusal is written, of the policy or of the store of its path; or connections were served from that store by
-    // that policy, as `Connections::serve` says, which is what the store is left with, and their lines are written.
-    ensures { Serves (M.around around.now) (stores_of (state S.Store) (P.finds files) (P.refuses files) (P.connects files)) service.entry result.0
-        (W.contents writer.old) (W.contents writer.new) result.1 (W.failures writer.old) (W.failures writer.new) (E.contents trace.old)
-        (E.contents trace.new) (E.failures trace.old) (E.failures trace.new) }
+    // that policy, as `Connections::serve` says, which is what the store is left with, and what a crash leaves of it; and their lines are
+    // written.
+    ensures { Serves (M.around around.now)
+        (record { cut = M.Listener.cut; gives = M.Listener.gives; ends = M.Listener.ends; flow = M.Listener.Peer.flow; limits = M.Listener.Peer.limits })
+        (stores_of (state S.Store) (P.finds files) (P.refuses files) (P.connects files)) service.entry result.0
+        (record { old = W.contents writer.old; new = W.contents writer.new; before = W.failures writer.old; after = W.failures writer.new }) result.1
+        (record { old = E.contents trace.old; new = E.contents trace.new; before = E.failures trace.old; after = E.failures trace.new }) }
 {
     let alloc = around.alloc();
     match policy_of(around, alloc, service.policy) {

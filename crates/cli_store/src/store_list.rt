@@ -1,6 +1,6 @@
 //! The job `zones`: what a store has, printed in a line for each zone.
 
-ghost use Rattle.std.specs.Prelude.{◌≡◌, IsSome, IfOk, IfErr, length, string_bytes};
+ghost use Rattle.std.specs.Prelude.{◌≡◌, IsSome, IsTrue, IfOk, IfErr, OnOk, length, string_bytes};
 ghost use Rattle.std.specs.Result.{result_map_both};
 ghost use Rattle.sqlite.specs.Held.{state};
 ghost use Rattle.sqlite.specs.State.{HasCleanDisk};
@@ -10,7 +10,7 @@ ghost use Rattle.office_model.specs.States.{State};
 ghost use Rattle.store_rows.specs.Listed.{AreOriginsOf};
 ghost use Rattle.store_faults.specs.StoreFaults.{IsFailure};
 ghost use Rattle.office_store.specs.Holds.{HoldsState};
-ghost use Rattle.office_store.specs.Queries.{AsksOnly};
+ghost use Rattle.office_store.specs.Queries.{Asked, AsksOnly, Only};
 ghost use Rattle.cli_store.specs.Stores.{stores_of};
 ghost use Rattle.cli_store.specs.StoreList.{list_in, IsSummary, AreZonesOf, IsListRead, IsListText, ZonesPrinted};
 
@@ -85,7 +85,10 @@ fn summaries<S: Alter + Drop, L: Ledger>(
     table: &mut SqlTable<S, L>,
     origins: &[Name],
 ) -> Result<Vec<ZoneSummary>, StoreFault>
-    ensures asks { AsksOnly (state S.Store table.old.conn) (state S.Store table.new.conn) result }
+    ensures asked { Asked (state S.Store table.old.conn) (state S.Store table.new.conn) }
+    // Where nothing is asked, the connection is open only if it was.
+    ensures only { HasCleanDisk (state S.Store table.new.conn) → IsTrue (state S.Store table.old.conn).is_open
+        → OnOk result (Only (state S.Store table.old.conn) (state S.Store table.new.conn)) }
     ensures summaries { HasCleanDisk (state S.Store table.new.conn)
         → IfOk result (λ zones. (s : State) → HoldsState (state S.Store table.old.conn) s → AreOriginsOf s origins.now → AreZonesOf s zones.items) }
     ensures failed { HasCleanDisk (state S.Store table.new.conn)

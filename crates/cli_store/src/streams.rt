@@ -62,7 +62,9 @@ fn run_counted<
     requires traces_name { traces.name ≡ C.name }
     requires traces_parts { traces.parts ≡ C.parts }
     requires traces_some { 0 < traces.parts }
-    ensures { IsRun (M.around around.now) (stores_of (state S.Store) (P.finds files) (P.refuses files) (P.connects files)) result.0
+    ensures { IsRun (M.around around.now)
+        (record { cut = M.Listener.cut; gives = M.Listener.gives; ends = M.Listener.ends; flow = M.Listener.Peer.flow; limits = M.Listener.Peer.limits })
+        (stores_of (state S.Store) (P.finds files) (P.refuses files) (P.connects files)) result.0
         (I.remaining streams.input) (I.remaining result.1.input) (O.contents streams.output) (O.contents result.1.output)
         (E.contents streams.trace) (E.contents result.1.trace) (map (λ s. s.now) words.now) (exit_status result.2) }
 {
@@ -94,7 +96,9 @@ pub fn run_words<
     E: Write + Drop,
 >(around: &M, files: P, words: &[&str], streams: Streams<I, O, E>) -> Left<S, I, O, E>
     // It ends as `do_words` does, with these words, each stream in its own place.
-    ensures { IsRun (M.around around.now) (stores_of (state S.Store) (P.finds files) (P.refuses files) (P.connects files)) result.0
+    ensures { IsRun (M.around around.now)
+        (record { cut = M.Listener.cut; gives = M.Listener.gives; ends = M.Listener.ends; flow = M.Listener.Peer.flow; limits = M.Listener.Peer.limits })
+        (stores_of (state S.Store) (P.finds files) (P.refuses files) (P.connects files)) result.0
         (I.remaining streams.input) (I.remaining result.1.input) (O.contents streams.output) (O.contents result.1.output)
         (E.contents streams.trace) (E.contents result.1.trace) (map (λ s. s.now) words.now) (exit_status result.2) }
 {

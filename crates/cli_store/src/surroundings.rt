@@ -4,10 +4,11 @@ ghost use Rattle.std.specs.Prelude.{⊤, Some, [], IfOk, OnErr};
 ghost use Rattle.cli_core.specs.LineFaults.{GivesOf, limited};
 ghost use Rattle.cli_store.specs.Around.{Around};
 
+use crate::listening::Socket;
 use cli_core::{Input, LineFault};
 use dns_master::DeviceFailed;
 use std::alloc::Global;
-use std::net::{SocketAddr, TcpListener, TcpStream};
+use std::net::SocketAddr;
 use std::time::Clock;
 
 /// What the program runs in, beside its streams and the files of stores. It reaches nothing else of the machine.
@@ -15,8 +16,11 @@ pub trait Surroundings {
     /// What tells the time.
     type Clock: Clock;
 
-    // What the files hold that words name, where a listener listens, and when there is none and no connection.
-    ghost around: { Self → Around };
+    /// What listens for connections.
+    type Listener: Socket + Drop;
+
+    // What the named files hold, where a listener listens, and when there can be none.
+    ghost around: { Self → Around Self.Listener };
 
     /// The allocator.
     fn alloc(&self) -> Global;
@@ -24,7 +28,7 @@ pub trait Surroundings {
     /// What tells the time.
     fn clock(&self) -> &Self::Clock;
 
-    /// Says a line on standard error, as why a job was not done. A failure is let go.
+    /// Writes a line to standard error, as why a job was not done. A failure is ignored.
     fn say(&self, line: &str);
 
     /// All octets of the file of a path. More than 4,194,304 are `TooLarge`, and `ReadFailed` comes only where it cannot be read.
@@ -32,19 +36,15 @@ pub trait Surroundings {
         ensures { GivesOf (λ octets. octets.items) ((around self.now).file path.now) limited result ⊤ ((around self.now).unreadable path.now) };
 
     /// A listener at an address and a port, and where it listens. An error comes only where there can be none.
-    fn listen(&self, address: SocketAddr) -> Result<(TcpListener, SocketAddr), DeviceFailed>
+    fn listen(&self, address: SocketAddr) -> Result<(Self::Listener, SocketAddr), DeviceFailed>
         ensures heard { IfOk result (λ heard. (around self.now).heard address heard.0 heard.1) }
         ensures unheard { OnErr result ((around self.now).unheard address) };
-
-    /// The next connection of a listener. An error comes only where none can be had.
-    fn accept(&self, listener: &TcpListener) -> Result<TcpStream, DeviceFailed>
-        ensures { OnErr result ((around self.now).cut listener.now) };
 }
 
 /// A file that words name, which is an input.
 #[derive(Clone, Copy)]
 pub(crate) struct NamedFile<'a, M> {
-    /// What has it.
+    /// What it is read from.
     pub(crate) around: &'a M,
     /// Its path.
     pub(crate) path: &'a str,

@@ -23,6 +23,7 @@ pub mod MovedLemmas
 pub mod MadeLemmas
 pub mod PlanLemmas
 pub mod PromiseLemmas
+pub mod HistoryLemmas
 pub mod CallLemmas
 pub mod AnswerLemmas
 pub mod BookmarkLemmas

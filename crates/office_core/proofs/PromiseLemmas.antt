@@ -44,7 +44,7 @@ module _ (s : State) (caller id : List ℕ) (r : Receipt) where
   own_key : Decides (bytes_eq caller caller && bytes_eq id id) ((caller ≡ caller) × (id ≡ id))
   own_key = Decides-and (bytes_eq caller caller) (bytes_eq id id) (bytes_eq-Decides caller caller) (bytes_eq-Decides id id)
 
-  keep_found : (keep s caller id r).receipts caller id ≡ Some r
+  pub keep_found : (keep s caller id r).receipts caller id ≡ Some r
   keep_found = cond-true (bytes_eq caller caller && bytes_eq id id) (Some r) (s.receipts caller id) (own_key.1 (refl, refl))
 
   pub keep_stays : s.receipts caller id ≡ None → (c i : List ℕ) (kept : Receipt) → s.receipts c i ≡ Some kept → (keep s caller id r).receipts c i ≡ Some kept

@@ -8,11 +8,12 @@ use Rattle.office_model.specs.declared.request.Call.{Call}
 use Rattle.office_model.specs.declared.reply.Reply.{Reply}
 use Rattle.office_model.specs.declared.table_fault.TableFault.TheVariants.{Store, NoMemory}
 use Rattle.office_model.specs.declared.table_fault.StepFault.TheVariants.{BeforeCommit, Commit}
-use Rattle.office_model.specs.declared.reply.Reply.TheVariants.{Servfail}
+use Rattle.office_model.specs.declared.reply.Reply.TheVariants.{Update, IdReused, Servfail, NotAuth, NotZone, Read}
 use Rattle.office_model.specs.Replies.{ReplyOf, reply_of}
 use Rattle.office_model.specs.States.{State}
-use Rattle.office_core.specs.Steps.{Steps, CountsReply}
-use Rattle.office_core.specs.Runs.{Answer, turn, answers, state_after, one_kept, one_given, kept, given, IsRun, counted_failures}
+use Rattle.office_model.specs.Tables.{LeavesOr}
+use Rattle.office_core.specs.Steps.{Steps, Leaves, CountsReply}
+use Rattle.office_core.specs.Runs.{Answer, turn, answers, state_after, one_kept, one_given, kept, given, IsRun, other_next, other_in, counted_failures}
 
 same_Some : {T : Type 0} (a b : T) → Some a ≡ Some b → a ≡ b
 same_Some a b e = cc
@@ -81,6 +82,48 @@ module _ (rules : List Rule) where
       let taken : take (i + 1) calls ≡ take i calls ++ call ∷ [] = take_more calls i call low ∙ ap (λ (x : Call). take i calls ++ x ∷ []) (sym is) in
       subst (λ cs. IsRun after rules s cs all) (sym taken)
       (subst (λ l. IsRun after rules s (take i calls ++ call ∷ []) l) (sym more) (run_more before after s (take i calls) rs call r run steps))
+
+  -- ---- crashes
+
+  -- what a crash leaves after one more call
+  left_one : (leaves : State → State → Type 0) (t : State) (other : Option State) (call : Call) (r : Reply) → Leaves leaves rules t other call.caller call.request r
+      → LeavesOr leaves (state_after rules t (one_kept call (reply_of r))) (other_next rules t other call r)
+  left_one leaves t other call (Servfail (BeforeCommit fault)) left = left
+  left_one leaves t other call (Servfail (Commit fault)) left = left
+  left_one leaves t other call (Update reply) left = left
+  left_one leaves t other call IdReused left = left
+  left_one leaves t other call NotAuth left = left
+  left_one leaves t other call NotZone left = left
+  left_one leaves t other call (Read reading) left = left
+
+  other_in-append : (s : State) (other : Option State) (calls : List Call) (rs : List Reply) (call : Call) (r : Reply) → length rs ≡ length calls
+      → other_in rules s other (calls ++ call ∷ []) (rs ++ r ∷ []) ≡ other_next rules (state_after rules s (kept calls rs)) (other_in rules s other calls rs) call r
+  other_in-append s other [] [] call r e = refl
+  other_in-append s other [] (x ∷ xs) call r e = absurd (omega arith)
+  other_in-append s other (x ∷ xs) [] call r e = absurd (omega arith)
+  other_in-append s other (x ∷ xs) (y ∷ ys) call r e =
+      let t = state_after rules s (one_kept x (reply_of y)) in
+      other_in-append t (other_next rules s other x y) xs ys call r (omega arith)
+      ∙ ap (λ (k : State). other_next rules k (other_in rules s other (x ∷ xs) (y ∷ ys)) call r) (sym (state_after-append s (one_kept x (reply_of y)) (kept xs ys)))
+
+  left_more : (leaves : State → State → Type 0) (s : State) (other : Option State) (calls : List Call) (rs : List Reply) (call : Call) (r : Reply) → length rs ≡ length calls
+      → Leaves leaves rules (state_after rules s (kept calls rs)) (other_in rules s other calls rs) call.caller call.request r
+      → LeavesOr leaves (state_after rules s (kept (calls ++ call ∷ []) (rs ++ r ∷ []))) (other_in rules s other (calls ++ call ∷ []) (rs ++ r ∷ []))
+  left_more leaves s other calls rs call r e left =
+      let state : state_after rules s (kept (calls ++ call ∷ []) (rs ++ r ∷ [])) ≡ state_after rules (state_after rules s (kept calls rs)) (one_kept call (reply_of r))
+      = ap (state_after rules s) (kept-append calls rs call r e) ∙ state_after-append s (kept calls rs) (one_kept call (reply_of r)) in
+      subst (λ (k : State). LeavesOr leaves k (other_in rules s other (calls ++ call ∷ []) (rs ++ r ∷ []))) (sym state)
+      (subst (λ (o : Option State). LeavesOr leaves (state_after rules (state_after rules s (kept calls rs)) (one_kept call (reply_of r))) o) (sym (other_in-append s other calls rs call r e))
+      (left_one leaves (state_after rules s (kept calls rs)) (other_in rules s other calls rs) call r left))
+
+  -- the same of the next call of a list
+  pub left_next : (leaves : State → State → Type 0) (s : State) (other : Option State) (calls : List Call) (i : ℕ) (rs all : List Reply) (call : Call) (r : Reply) → i < length calls → call ≡ get_or calls i call → all ≡ rs ++ r ∷ []
+      → length rs ≡ length (take i calls) → Leaves leaves rules (state_after rules s (kept (take i calls) rs)) (other_in rules s other (take i calls) rs) call.caller call.request r
+      → LeavesOr leaves (state_after rules s (kept (take (i + 1) calls) all)) (other_in rules s other (take (i + 1) calls) all)
+  left_next leaves s other calls i rs all call r low is more e left =
+      let taken : take (i + 1) calls ≡ take i calls ++ call ∷ [] = take_more calls i call low ∙ ap (λ (x : Call). take i calls ++ x ∷ []) (sym is) in
+      subst (λ cs. LeavesOr leaves (state_after rules s (kept cs all)) (other_in rules s other cs all)) (sym taken)
+      (subst (λ l. LeavesOr leaves (state_after rules s (kept (take i calls ++ call ∷ []) l)) (other_in rules s other (take i calls ++ call ∷ []) l)) (sym more) (left_more leaves s other (take i calls) rs call r e left))
 
 -- ---- failures
 

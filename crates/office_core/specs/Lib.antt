@@ -9,6 +9,7 @@ pub mod Plans
 pub mod Bookmarks
 pub mod Seen
 pub mod Runs
+pub mod Histories
 pub mod Isolation
 pub mod Memory
 pub mod Promises

@@ -13,6 +13,7 @@ use Rattle.office_model.specs.declared.reply.Reply.TheVariants.{Servfail}
 use Rattle.office_model.specs.Replies.{ReplyOf, reply_of}
 use Rattle.office_model.specs.States.{State}
 use Rattle.office_core.specs.Machine.{Turn, step}
+use Rattle.office_core.specs.Steps.{other_after}
 
 -- the turn of a call
 abbrev pub turn : List Rule → State → Call → Turn
@@ -77,3 +78,17 @@ abbrev pub counted_failures : Reply → ℕ
 counted_failures (Servfail (BeforeCommit Store)) = 1
 counted_failures (Servfail (Commit Store)) = 1
 counted_failures reply = 0
+
+-- ---- what a crash leaves
+
+-- the other state that a crash may leave after a reply to a call
+abbrev pub other_next : List Rule → State → Option State → Call → Reply → Option State
+other_next rules s other call (Servfail (BeforeCommit fault)) = other
+other_next rules s other call (Servfail (Commit fault)) = Some (turn rules s call).after
+other_next rules s other call reply = other_after call.request (turn rules s call).after other
+
+-- and after the replies to calls
+abbrev pub other_in : List Rule → State → Option State → List Call → List Reply → Option State
+other_in rules s other [] rs = other
+other_in rules s other (call ∷ calls) [] = other
+other_in rules s other (call ∷ calls) (r ∷ rs) = other_in rules (state_after rules s (one_kept call (reply_of r))) (other_next rules s other call r) calls rs

@@ -11,13 +11,14 @@ use Rattle.office_model.specs.declared.table_fault.StepFault.{StepFault}
 use Rattle.office_model.specs.declared.table_fault.StepFault.TheVariants.{BeforeCommit, Commit}
 use Rattle.office_model.specs.TableFaults.{cause}
 use Rattle.office_model.specs.declared.request.Request.{Request}
+use Rattle.office_model.specs.declared.request.Request.TheVariants.{Update, Read}
 use Rattle.office_model.specs.declared.reply.Reply.{Reply}
 use Rattle.office_model.specs.declared.reply.Reply.TheVariants.{Servfail}
 use Rattle.office_model.specs.declared.reply.UpdateReply.{UpdateReply}
 use Rattle.office_model.specs.declared.reply.UpdateReply.TheVariants.{NoError, NotAuth}
 use Rattle.office_model.specs.Replies.{reply_of, to_update}
 use Rattle.office_model.specs.States.{Held, State}
-use Rattle.office_model.specs.Tables.{CountsFault, AdditionOf, Fits, committed}
+use Rattle.office_model.specs.Tables.{CountsFault, AdditionOf, Fits, LeavesOr, committed}
 use Rattle.office_core.specs.Machine.{Turn, step, outside_reply, denied_reply, failed_reply, zone_refusal, receipt}
 
 -- What a request is answered from a state, and that the state after it is held: a step of the machine; or the table failed or
@@ -26,12 +27,19 @@ abbrev pub Steps : (State → Type 0) → List Rule → State → List ℕ → R
 Steps holds rules s caller request (Servfail fault) = holds s
 Steps holds rules s caller request reply = (reply_of reply ≡ Some (step rules s caller request).reply) × holds (step rules s caller request).after
 
--- What a crash leaves behind a reply: the state after the request; where a read failed or memory ran out before the commit, the
--- state before it; where the commit failed, either.
-abbrev pub Leaves : (State → State → Type 0) → List Rule → State → List ℕ → Request → Reply → Type 0
-Leaves leaves rules s caller request (Servfail (BeforeCommit fault)) = leaves s s
-Leaves leaves rules s caller request (Servfail (Commit fault)) = leaves s (step rules s caller request).after
-Leaves leaves rules s caller request reply = leaves (step rules s caller request).after (step rules s caller request).after
+-- The other state that a crash may leave after a request: behind an update none but the one that is held; a query leaves it as it was.
+abbrev pub other_after : Request → State → Option State → Option State
+other_after (Update origin id update) after other = Some after
+other_after (Read query) after other = other
+
+-- What a crash leaves behind a reply. Behind an update that was answered it leaves the state after it, and nothing else, whatever it might
+-- have left before; where the commit failed, the state before or the one after. A query changes nothing, nor does a step that failed before
+-- its commit.
+abbrev pub Leaves : (State → State → Type 0) → List Rule → State → Option State → List ℕ → Request → Reply → Type 0
+Leaves leaves rules s other caller request (Servfail (BeforeCommit fault)) = LeavesOr leaves s other
+Leaves leaves rules s other caller request (Servfail (Commit fault)) = leaves s (step rules s caller request).after
+Leaves leaves rules s other caller request reply =
+    LeavesOr leaves (step rules s caller request).after (other_after request (step rules s caller request).after other)
 
 -- a reply for a failure of the table is one where its count rose by one, and it did for no other reply
 abbrev pub CountsReply : ℕ → ℕ → Reply → Type 0
@@ -50,10 +58,16 @@ abbrev pub Takes : {E : Type 0} → (State → Type 0) → State → Turn → Re
 Takes holds s turn (Ok reply) = (reply_of reply ≡ Some turn.reply) × holds turn.after
 Takes holds s turn (Err fault) = holds s
 
-abbrev pub LeavesTurn : (State → State → Type 0) → State → Turn → Result Reply StepFault → Type 0
-LeavesTurn leaves s turn (Ok reply) = leaves turn.after turn.after
-LeavesTurn leaves s turn (Err (BeforeCommit fault)) = leaves s s
-LeavesTurn leaves s turn (Err (Commit fault)) = leaves s turn.after
+abbrev pub LeavesTurn : (State → State → Type 0) → State → Option State → Request → Turn → Result Reply StepFault → Type 0
+LeavesTurn leaves s other request turn (Ok reply) = LeavesOr leaves turn.after (other_after request turn.after other)
+LeavesTurn leaves s other request turn (Err (BeforeCommit fault)) = LeavesOr leaves s other
+LeavesTurn leaves s other request turn (Err (Commit fault)) = leaves s turn.after
+
+-- the same of an update
+abbrev pub LeavesUpdate : (State → State → Type 0) → State → Option State → Turn → Result Reply StepFault → Type 0
+LeavesUpdate leaves s other turn (Ok reply) = leaves turn.after turn.after
+LeavesUpdate leaves s other turn (Err (BeforeCommit fault)) = LeavesOr leaves s other
+LeavesUpdate leaves s other turn (Err (Commit fault)) = leaves s turn.after
 
 abbrev pub CountsStep : ℕ → ℕ → Result Reply StepFault → Type 0
 CountsStep before after (Ok reply) = after ≡ before

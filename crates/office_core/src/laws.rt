@@ -1,6 +1,7 @@
 //! Laws of the definitions. The functions do nothing: their contracts are the laws.
 
 ghost use Rattle.office_core.specs.Footprints.{FootprintsAreAsked, FootprintsAreInOrder};
+ghost use Rattle.office_core.specs.Histories.{ReceiptsAreKept, UpdatesAreMadeOnce};
 ghost use Rattle.office_core.specs.Isolation.{CallersAreAlone, BlindCallersAreAlone, PoliciesKeepAlone, IsolatedCallersAreAlone};
 ghost use Rattle.office_core.specs.Promises.{ListsAreExact, ChangesAreExact, AllCallsAreRight};
 ghost use Rattle.office_core.specs.RightAnswers.{AllAnswersAreRight};
@@ -55,4 +56,11 @@ pub fn calls_are_right()
 /// under each identifier of a caller. Any other request is told what the caller may list, see or do.
 pub fn answers_are_right()
     ensures { AllAnswersAreRight }
+{}
+
+/// Over any time, whatever is called and by whatever policies: an update that was answered keeps its receipt, and of the updates of a
+/// caller under one identifier only the first changes anything.
+pub fn updates_are_made_once()
+    ensures kept { ReceiptsAreKept }
+    ensures once { UpdatesAreMadeOnce }
 {}

@@ -27,7 +27,7 @@ pub use fail_table::{FailTable, TableCall};
 pub use footprint::{operation_asks, prerequisite_asks};
 pub use laws::{
     answers_are_right, callers_are_alone, calls_are_right, changes_are_exact,
-    footprints_are_asked_in_order, lists_are_exact,
+    footprints_are_asked_in_order, lists_are_exact, updates_are_made_once,
 };
 pub use memory::MemTable;
 pub use office_model::{

@@ -1,8 +1,9 @@
 //! Runs of the machine.
 
-ghost use Rattle.std.specs.Prelude.{◌≡◌, ◌+◌, IfOk, OnErr, sum_by};
+ghost use Rattle.std.specs.Prelude.{◌≡◌, ◌+◌, Option, IfOk, OnErr, sum_by};
 ghost use Rattle.office_model.specs.States.{State};
-ghost use Rattle.office_core.specs.Runs.{IsRun, HasUpdate, HaveUpdates, kept, given, counted_failures};
+ghost use Rattle.office_model.specs.Tables.{LeavesOr};
+ghost use Rattle.office_core.specs.Runs.{IsRun, HasUpdate, HaveUpdates, state_after, kept, given, other_in, counted_failures};
 ghost use Rattle.office_core.specs.Promises.{CallsAreRight};
 ghost use Rattle.office_core.specs.RightAnswers.{AnswersAreRight};
 ghost use Rattle.office_core.specs.Isolation.{AreAnsweredAlone};
@@ -33,12 +34,19 @@ pub fn run<T: ZoneTable>(
     // Each caller gets the replies that it would get alone, as far as the law of isolation goes.
     ensures alone { T.is_honest table.new → (s : State) → T.holds table.old s
         → IfOk result (λ replies. AreAnsweredAlone policy.now s (kept calls.now replies.items) (given calls.now replies.items)) }
+    // A crash leaves the state after the calls that were answered, or the one after one more, whose commit failed, if no update was
+    // answered after it.
+    ensures crash { T.is_honest table.new → (s : State) (other : Option State) → T.holds table.old s → LeavesOr (T.leaves table.old) s other
+        → IfOk result
+        (λ replies. LeavesOr (T.leaves table.new) (state_after policy.now s (kept calls.now replies.items))
+        (other_in policy.now s other calls.now replies.items)) }
     // A store that has kept its word had kept it before.
     ensures honest { T.is_honest table.new → T.is_honest table.old }
     // As many failures of the table are reported as the table counted.
     ensures counts { IfOk result (λ replies. T.failures table.new ≡ T.failures table.old + sum_by counted_failures replies.items) }
     // Where there is no list of replies the table is as it was.
     ensures refused { OnErr result ((s : State) → T.holds table.old s → T.holds table.new s) }
+    ensures unlost { OnErr result ((s t : State) → T.leaves table.old s t → T.leaves table.new s t) }
     ensures uncounted { OnErr result (T.failures table.new ≡ T.failures table.old) }
 {
     reveal_updates(calls);
@@ -54,9 +62,14 @@ fn replies_to<T: ZoneTable>(
 ) -> Result<Vec<Reply>, AllocError>
     ensures run { T.is_honest table.new → (s : State) → T.holds table.old s
         → IfOk result (λ replies. IsRun (T.holds table.new) policy.now s calls.now replies.items) }
+    ensures crash { T.is_honest table.new → (s : State) (other : Option State) → T.holds table.old s → LeavesOr (T.leaves table.old) s other
+        → IfOk result
+        (λ replies. LeavesOr (T.leaves table.new) (state_after policy.now s (kept calls.now replies.items))
+        (other_in policy.now s other calls.now replies.items)) }
     ensures honest { T.is_honest table.new → T.is_honest table.old }
     ensures counts { IfOk result (λ replies. T.failures table.new ≡ T.failures table.old + sum_by counted_failures replies.items) }
     ensures refused { OnErr result ((s : State) → T.holds table.old s → T.holds table.new s) }
+    ensures unlost { OnErr result ((s t : State) → T.leaves table.old s t → T.leaves table.new s t) }
     ensures uncounted { OnErr result (T.failures table.new ≡ T.failures table.old) }
 {
     // no reply takes memory here behind a step: there is room for all

@@ -1,7 +1,8 @@
 //! One step of the machine.
 
-ghost use Rattle.std.specs.Prelude.{IfOk};
+ghost use Rattle.std.specs.Prelude.{IfOk, Option};
 ghost use Rattle.office_model.specs.States.{State};
+ghost use Rattle.office_model.specs.Tables.{LeavesOr};
 ghost use Rattle.office_core.specs.Machine.{step};
 ghost use Rattle.office_core.specs.Bookmarks.{AreBookmarks};
 ghost use Rattle.office_core.specs.Steps.{Steps, Leaves, CountsReply, CountsStep, Takes, LeavesTurn, IsAnswer};
@@ -32,10 +33,10 @@ pub fn step<T: ZoneTable>(
 ) -> Reply
     // Where the store has kept its word, the reply and the state after it are those of the machine.
     ensures step { T.is_honest table.new → (s : State) → T.holds table.old s → Steps (T.holds table.new) policy.now s caller.now request.now result }
-    // A crash leaves the state after the request behind a reply of the machine; where the step failed before its commit, the state
-    // before it; and where the commit failed, either.
-    ensures crash { T.is_honest table.new → (s : State) → T.holds table.old s → T.leaves table.old s s
-        → Leaves (T.leaves table.new) policy.now s caller.now request.now result }
+    // Behind an update that was answered a crash leaves the state after it; where the commit failed, the one before or the one after;
+    // and else what it would have left before.
+    ensures crash { T.is_honest table.new → (s : State) (other : Option State) → T.holds table.old s → LeavesOr (T.leaves table.old) s other
+        → Leaves (T.leaves table.new) policy.now s other caller.now request.now result }
     // A store that has kept its word had kept it before.
     ensures honest { T.is_honest table.new → T.is_honest table.old }
     // A failure of the table is told only where the table counted it.
@@ -59,8 +60,8 @@ pub fn step_with_bookmarks<T: ZoneTable>(
     // held then.
     ensures step { T.is_honest table.new → (s : State) → T.holds table.old s → AreBookmarks policy.now s bookmarks.old
         → Steps (λ t. T.holds table.new t × AreBookmarks policy.now t bookmarks.new) policy.now s caller.now request.now result }
-    ensures crash { T.is_honest table.new → (s : State) → T.holds table.old s → T.leaves table.old s s
-        → Leaves (T.leaves table.new) policy.now s caller.now request.now result }
+    ensures crash { T.is_honest table.new → (s : State) (other : Option State) → T.holds table.old s → LeavesOr (T.leaves table.old) s other
+        → Leaves (T.leaves table.new) policy.now s other caller.now request.now result }
     ensures honest { T.is_honest table.new → T.is_honest table.old }
     ensures counts { CountsReply (T.failures table.old) (T.failures table.new) result }
 {
@@ -81,8 +82,8 @@ fn answer<T: ZoneTable>(
 ) -> Result<Reply, StepFault>
     ensures takes { T.is_honest table.new → (s : State) → T.holds table.old s → AreBookmarks policy.now s bookmarks.old
         → Takes (T.holds table.new) s (step policy.now s caller.now request.now) result }
-    ensures crash { T.is_honest table.new → (s : State) → T.holds table.old s → T.leaves table.old s s
-        → LeavesTurn (T.leaves table.new) s (step policy.now s caller.now request.now) result }
+    ensures crash { T.is_honest table.new → (s : State) (other : Option State) → T.holds table.old s → LeavesOr (T.leaves table.old) s other
+        → LeavesTurn (T.leaves table.new) s other request.now (step policy.now s caller.now request.now) result }
     ensures honest { T.is_honest table.new → T.is_honest table.old }
     ensures answers { IfOk result IsAnswer }
     ensures counts { CountsStep (T.failures table.old) (T.failures table.new) result }

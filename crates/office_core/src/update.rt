@@ -1,14 +1,14 @@
 //! Updates: whether they are made, and what is kept of them.
 
-ghost use Rattle.std.specs.Prelude.{◌≡◌, None, Some, IfOk, option_map};
+ghost use Rattle.std.specs.Prelude.{◌≡◌, Option, None, Some, IfOk, option_map};
 ghost use Rattle.zone_core.specs.Updates.{IsUpdate, ActsWithin};
 ghost use Rattle.zone_core.specs.Changes.{change_in};
 ghost use Rattle.office_model.specs.Replies.{reply_of};
 ghost use Rattle.office_model.specs.States.{State};
-ghost use Rattle.office_model.specs.Tables.{ReadsOnly, addition_in};
+ghost use Rattle.office_model.specs.Tables.{LeavesOr, ReadsOnly, addition_in};
 ghost use Rattle.office_model.specs.declared.reply.UpdateReply.TheVariants.{NoError};
 ghost use Rattle.office_core.specs.Machine.{again, zone_refusal, failed_reply};
-ghost use Rattle.office_core.specs.Steps.{CountsStep, IsAnswer, Takes, LeavesTurn, Commits, Makes, MakesOf, held_in, unread_refusal};
+ghost use Rattle.office_core.specs.Steps.{CountsStep, IsAnswer, Takes, LeavesUpdate, Commits, Makes, MakesOf, held_in, unread_refusal};
 ghost use Rattle.office_core.specs.Submissions.{submitted, first_submitted, IsFresh, MakesFirst, addition_for};
 ghost use Rattle.office_core.specs.Plans.{Plans};
 
@@ -27,8 +27,8 @@ pub(crate) fn update_reply<T: ZoneTable>(
     submission: &Submission<'_>,
 ) -> Result<Reply, StepFault>
     ensures takes { T.is_honest table.new → (s : State) → T.holds table.old s → Takes (T.holds table.new) s (submitted submission.now s) result }
-    ensures crash { T.is_honest table.new → (s : State) → T.holds table.old s → T.leaves table.old s s
-        → LeavesTurn (T.leaves table.new) s (submitted submission.now s) result }
+    ensures crash { T.is_honest table.new → (s : State) (other : Option State) → T.holds table.old s → LeavesOr (T.leaves table.old) s other
+        → LeavesUpdate (T.leaves table.new) s other (submitted submission.now s) result }
     ensures honest { T.is_honest table.new → T.is_honest table.old }
     ensures answers { IfOk result IsAnswer }
     ensures counts { CountsStep (T.failures table.old) (T.failures table.new) result }
@@ -59,7 +59,7 @@ fn first_reply<T: ZoneTable>(
     requires fresh { T.is_honest table.old → (s : State) → T.holds table.old s → IsFresh submission.now s }
     ensures takes { T.is_honest table.new → (s : State) → T.holds table.old s → Takes (T.holds table.new) s (first_submitted submission.now s) result }
     ensures crash { T.is_honest table.new → (s : State) → T.holds table.old s → T.leaves table.old s s
-        → LeavesTurn (T.leaves table.new) s (first_submitted submission.now s) result }
+        → LeavesUpdate (T.leaves table.new) s (Some s) (first_submitted submission.now s) result }
     ensures honest { T.is_honest table.new → T.is_honest table.old }
     ensures answers { IfOk result IsAnswer }
     ensures counts { CountsStep (T.failures table.old) (T.failures table.new) result }

@@ -83,6 +83,26 @@ abbrev pub Counts : {X : Type 0} → ℕ → ℕ → Result X TableFault → Typ
 Counts before after (Ok x) = after ≡ before
 Counts before after (Err fault) = CountsFault before after fault
 
+-- ---- crashes
+
+-- what a table keeps: the state that it holds, and the other one that a crash may leave in its place, where that is known
+pub record Kept : Type 0 where
+  pub state : State
+  pub other : Option State
+
+-- A crash leaves this state or the other one, where that is known.
+abbrev pub LeavesOr : (State → State → Type 0) → State → Option State → Type 0
+LeavesOr leaves s None = Unit {0}
+LeavesOr leaves s (Some t) = leaves s t
+
+-- What a table holds, and what a crash leaves of it, is so.
+abbrev pub Keeps : (State → Type 0) → (State → State → Type 0) → Kept → Type 0
+Keeps holds leaves k = holds k.state × LeavesOr leaves k.state k.other
+
+-- Where a call answers, a crash leaves what the table holds, and nothing else.
+abbrev pub Settles : {A X : Type 0} → (A → State → Type 0) → (A → Type 0) → (A → State → State → Type 0) → A → Result X TableFault → Type 0
+Settles holds is_honest leaves new result = is_honest new → OnOk result ((s : State) → holds new s → leaves new s s)
+
 -- ---- reads
 
 -- What a call that only reads leaves: what the table held it holds, and where it answers, nothing else; a crash leaves what it left;

@@ -6,7 +6,7 @@ ghost use Rattle.dns_data.specs.declared.record.Record.{Record};
 ghost use Rattle.zone_core.specs.Sets.{InOrder};
 ghost use Rattle.zone_core.specs.Changes.{change_in};
 ghost use Rattle.office_model.specs.States.{Held, State, AreZones, AreReceipts, zone_at, part_at, subtree_at, changes_at};
-ghost use Rattle.office_model.specs.Tables.{AreHidden, Counts, Fits, ReadsOnly, addition_in, committed, included};
+ghost use Rattle.office_model.specs.Tables.{AreHidden, Counts, Fits, ReadsOnly, Settles, addition_in, committed, included};
 
 use crate::ahead::Ahead;
 use crate::receipt::{Addition, Receipt};
@@ -17,7 +17,8 @@ use grant_policy::{Grants, Identifier};
 use std::alloc::Global;
 use zone_core::{Change, Zone};
 
-/// A table of zones with their changes, and of receipts. Each call either answers or changes nothing but the count of failures.
+/// A table of zones with their changes, and of receipts. Each call either answers or changes nothing but the count of failures. A table
+/// that answers from its store has nothing left to lose: a crash leaves what it holds.
 pub trait ZoneTable {
     // It holds this state. A table that its store has shut holds any state, and refuses each call.
     ghost holds: { Self → State → Type 0 };
@@ -34,12 +35,14 @@ pub trait ZoneTable {
     /// Whether there is the zone of an origin. None of its records is read.
     fn has_zone(&mut self, alloc: Global, origin: &Name) -> Result<bool, TableFault>
         ensures answer { is_honest self.new → IfOk result (λ found. (s : State) → holds self.old s → found ≡ is_some (s.zones origin.now)) }
-        ensures reads { ReadsOnly holds is_honest leaves failures self.old self.new result };
+        ensures reads { ReadsOnly holds is_honest leaves failures self.old self.new result }
+        ensures settled { Settles holds is_honest leaves self.new result };
 
     /// The zone of an origin, where there is one.
     fn zone(&mut self, alloc: Global, origin: &Name) -> Result<Option<Zone>, TableFault>
         ensures answer { is_honest self.new → IfOk result (λ zone. (s : State) → holds self.old s → zone ≡ zone_at s origin.now) }
-        ensures reads { ReadsOnly holds is_honest leaves failures self.old self.new result };
+        ensures reads { ReadsOnly holds is_honest leaves failures self.old self.new result }
+        ensures settled { Settles holds is_honest leaves self.new result };
 
     /// The part of a zone that has its records at the origin and at some names, where there is the zone.
     fn part(
@@ -49,7 +52,8 @@ pub trait ZoneTable {
         names: &[Name],
     ) -> Result<Option<Zone>, TableFault>
         ensures answer { is_honest self.new → IfOk result (λ zone. (s : State) → holds self.old s → zone ≡ part_at s origin.now names.now) }
-        ensures reads { ReadsOnly holds is_honest leaves failures self.old self.new result };
+        ensures reads { ReadsOnly holds is_honest leaves failures self.old self.new result }
+        ensures settled { Settles holds is_honest leaves self.new result };
 
     /// The records of a zone within a name that grants include, in record order, where there is the zone. No other record is copied.
     fn subtree(
@@ -66,7 +70,8 @@ pub trait ZoneTable {
         // They are in record order, whatever the store has done.
         ensures order { IfOk result (λ records. IfSome records (λ rs. InOrder rs.items)) }
         ensures same { grants.new ≡ grants.old }
-        ensures reads { ReadsOnly holds is_honest leaves failures self.old self.new result };
+        ensures reads { ReadsOnly holds is_honest leaves failures self.old self.new result }
+        ensures settled { Settles holds is_honest leaves self.new result };
 
     /// The receipt of a caller under an identifier, where there is one.
     fn receipt(
@@ -76,13 +81,15 @@ pub trait ZoneTable {
         id: &Identifier,
     ) -> Result<Option<Receipt>, TableFault>
         ensures answer { is_honest self.new → IfOk result (λ receipt. (s : State) → holds self.old s → receipt ≡ s.receipts caller.now id.now) }
-        ensures reads { ReadsOnly holds is_honest leaves failures self.old self.new result };
+        ensures reads { ReadsOnly holds is_honest leaves failures self.old self.new result }
+        ensures settled { Settles holds is_honest leaves self.new result };
 
     /// The changes of a zone, the oldest first, where there is the zone.
     fn changes(&mut self, alloc: Global, origin: &Name) -> Result<Option<Vec<Change>>, TableFault>
         ensures answer { is_honest self.new
             → IfOk result (λ changes. (s : State) → holds self.old s → option_map (λ cs. map change_in cs.items) changes ≡ changes_at s origin.now) }
-        ensures reads { ReadsOnly holds is_honest leaves failures self.old self.new result };
+        ensures reads { ReadsOnly holds is_honest leaves failures self.old self.new result }
+        ensures settled { Settles holds is_honest leaves self.new result };
 
     /// The changes of a zone behind the first ones, so many, and at most so many of them; the oldest first, where there is the zone.
     fn changes_behind(
@@ -96,9 +103,11 @@ pub trait ZoneTable {
             → IfOk result
             (λ changes. (s : State) → holds self.old s
             → option_map (λ cs. map change_in cs.items) changes ≡ option_map (λ cs. take most (drop count cs)) (changes_at s origin.now)) }
-        ensures reads { ReadsOnly holds is_honest leaves failures self.old self.new result };
+        ensures reads { ReadsOnly holds is_honest leaves failures self.old self.new result }
+        ensures settled { Settles holds is_honest leaves self.new result };
 
-    /// What comes next among the changes of a zone behind the first ones, so many, as far as the table remembers what it has read.
+    /// What comes next among the changes of a zone behind the first ones, so many, as far as the table remembers what it has read. It may
+    /// answer without its store.
     fn ahead(
         &mut self,
         origin: &Name,

@@ -9,7 +9,7 @@ use Rattle.store_sql.specs.declared.rows_fault.RowsFault.TheVariants as tables
 use Rattle.store_sql.specs.Rows.{RecordRowOf, ReceiptRowOf, ChangeRowOf, RowsOf}
 use Rattle.store_sql.specs.Tables.{stored_zone}
 use Rattle.store_sql.specs.Holds.{Holds, OnlyAsks, Reads}
-use Rattle.store_sql.proofs.Commits.{asks_then, shows_then, held_before, held_now}
+use Rattle.store_sql.proofs.Commits.{asks_then, shows_then, held_now}
 use Rattle.store_sql.proofs.Selections.{one_stored_zone}
 use Rattle.store_sql.proofs.WholeTables.{reads_all, stored_same}
 use Rattle.store_rows.specs.declared.row_fault.RowFault.{RowFault}
@@ -32,7 +32,7 @@ use Rattle.office_store.specs.Queries.{AsksOnly}
 use Rattle.office_store.specs.declared.opening.Checked.{Checked}
 use Rattle.store_cache.specs.declared.history.ZoneHistory.{ZoneHistory}
 use Rattle.store_cache.specs.History.{Remembers}
-use Rattle.office_store.proofs.QueryLemmas.{asked_once, only_of}
+use Rattle.office_store.proofs.QueryLemmas.{asked_once, only_shown}
 
 abbrev Labels : Type 0
 Labels = List (List ℕ)
@@ -250,5 +250,5 @@ module _ (old new : Shown) where
   refuses_none (Err e) c clean = λ s h. c.good clean h.rows h.held (rows_of_state (pos 2) h.rows s h.are)
 
   pub asks_only : (r : Result Checked StoreFault) → WasChecked r → AsksOnly old new r
-  asks_only (Ok x) c = (asked_once old new c.asks, λ clean. only_of old new (λ all holds. held_before old new all c.asks (c.same clean) holds))
+  asks_only (Ok x) c = (asked_once old new c.asks, λ clean. only_shown old new c.asks (c.same clean))
   asks_only (Err e) c = (asked_once old new c.asks, λ clean. tt)

@@ -1,8 +1,10 @@
 -- Questions, one after the other.
-use Rattle.std.proofs.Common.{◌≡◌, ℕ, List, Bool, true, false, Option, Some, None, is_some, pos, Ok, Err, Result, IfOk, refl, sym, ap, subst, ◌∙◌, bytes_eq}
+use Rattle.std.proofs.Common.{◌≡◌, ℕ, List, Bool, true, false, Option, Some, None, is_some, pos, Ok, Err, Result, IfOk, IsTrue, refl, sym, ap, subst, ◌∙◌, inl, bytes_eq}
 use Rattle.std.specs.List.{list_any}
 use Rattle.std.specs.Result.{IsErr}
-use Rattle.sqlite.specs.State.{State as Shown, HasCleanDisk, IsUnchanged}
+use Rattle.sqlite_trees.specs.Tree.{Trees}
+use Rattle.sqlite.specs.Effect.{Database}
+use Rattle.sqlite.specs.State.{State as Shown, HasCleanDisk, IsUnchanged, Shows}
 use Rattle.dns_names.specs.Keys.{key_of}
 use Rattle.dns_names.specs.Labels.{IsName}
 use Rattle.dns_names.specs.Spelling.{name_text}
@@ -10,10 +12,11 @@ use Rattle.office_model.specs.States.{Held, State}
 use Rattle.store_sql.specs.Rows.{RowsOf}
 use Rattle.store_sql.specs.Lookups.{records_at}
 use Rattle.store_rows.specs.Contents.{AreOfState}
-use Rattle.store_sql.specs.Holds.{Holds, Keeps, Leaves, OnlyAsks, Reads}
+use Rattle.store_sql.specs.Holds.{AreRows, Holds, Keeps, Leaves, OnlyAsks, Reads}
+use Rattle.store_sql.proofs.Commits.{held_before}
 use Rattle.store_rows.proofs.StateLaws.{zones_are_listed}
 use Rattle.store_rows.proofs.OriginLaws.{zones_stand_at_origins}
-use Rattle.office_store.specs.Holds.{HoldsState}
+use Rattle.office_store.specs.Holds.{HoldsState, LeavesStates}
 use Rattle.office_store.specs.Queries.{Asked, AsksOnly, Only, Finds, Stands}
 
 pub asked_of : (old new : Shown) → ((rows : RowsOf) → Holds old rows → Holds new rows) → Leaves new old.may_leave → (HasCleanDisk new → HasCleanDisk old) → Asked old new
@@ -38,16 +41,20 @@ asked_then old mid new first next =
 pub asked_more : (old mid new : Shown) → Asked old mid → OnlyAsks mid new → Asked old new
 asked_more old mid new first asks = asked_then old mid new first (asked_once mid new asks)
 
-pub only_of : (old new : Shown) → ((rows : RowsOf) → Holds new rows → Holds old rows) → Only old new
-only_of old new back = record { rows = back; same = λ s h. record { rows = h.rows; are = h.are; held = back h.rows h.held } }
+pub only_of : (old new : Shown) → IsTrue new.is_open → ((rows : RowsOf) → Holds new rows → Holds old rows) → Only old new
+only_of old new up back = record { rows = back; same = λ s h. record { rows = h.rows; are = h.are; held = back h.rows h.held }; up = up }
+
+-- one question was answered
+pub only_shown : (old new : Shown) → OnlyAsks old new → Shows old new old.now old.now false → Only old new
+only_shown old new asks shows = only_of old new shows.is_open (λ rows h. held_before old new rows asks shows h)
 
 pub only_then : (old mid new : Shown) → Only old mid → Only mid new → Only old new
-only_then old mid new first next = only_of old new (λ rows h. first.rows rows (next.rows rows h))
+only_then old mid new first next = only_of old new next.up (λ rows h. first.rows rows (next.rows rows h))
 
 -- what shows as it was showed the same before
 pub unchanged_only : (old new : Shown) → IsUnchanged old new → Only old new
 unchanged_only old new same =
-    only_of old new (λ rows h up.
+    only_of old new same.0.is_open (λ rows h up.
     let now = h same.0.is_open in
     (subst (λ db. Reads db rows) same.0.now_is now.0, sym same.0.committed_is ∙ now.1 ∙ same.0.now_is))
 
@@ -65,8 +72,15 @@ pub refused_once : {X E : Type 0} (old new : Shown) (r : Result X E) → IsErr r
 refused_once old new r is asks = asks_refused old new r is (asked_once old new asks)
 
 -- one question was answered
-pub answered_once : (old new : Shown) → OnlyAsks old new → (HasCleanDisk new → (rows : RowsOf) → Holds new rows → Holds old rows) → Asked old new × (HasCleanDisk new → Only old new)
-answered_once old new asks back = (asked_once old new asks, λ clean. only_of old new (back clean))
+pub answered_once : (old new : Shown) → OnlyAsks old new → (HasCleanDisk new → Shows old new old.now old.now false) → Asked old new × (HasCleanDisk new → Only old new)
+answered_once old new asks shows = (asked_once old new asks, λ clean. only_shown old new asks (shows clean))
+
+-- a connection that is open, and shows what was committed, leaves the state that it shows
+pub settled_of : (new : Shown) (s : State) → IsTrue new.is_open → ((db : Trees) → IsTrue new.is_open → new.may_leave db → db ≡ new.committed.trees) → HoldsState new s → LeavesStates new s s
+settled_of new s up last h clean db may =
+    let now = h.held up in
+    let is : db ≡ new.now.trees = last db up may ∙ ap (λ (d : Database). d.trees) now.1 in
+    inl (h.rows, h.are, subst (λ t. AreRows t h.rows) (sym is) now.0.tables)
 
 -- what one question leaves is what was shown, whatever the tables are
 pub keeps_once : (old new : Shown) → OnlyAsks old new → Keeps old new

@@ -1,5 +1,5 @@
 -- What is asked of a connection that holds a state.
-use Rattle.std.specs.Prelude.{◌≡◌, ◌≢◌, ℕ, List, [], Option, Some, None, Result, OnOk, pos}
+use Rattle.std.specs.Prelude.{◌≡◌, ◌≢◌, ℕ, List, [], Option, Some, None, Result, OnOk, IsTrue, pos}
 use Rattle.sqlite.specs.State.{State as Shown, HasCleanDisk}
 use Rattle.office_model.specs.States.{Held, State}
 use Rattle.store_sql.specs.Rows.{RecordRowOf, RowsOf}
@@ -15,10 +15,11 @@ pub record Asked (old new : Shown) : Type 0 where
   pub crash : (s t : State) → LeavesStates old s t → LeavesStates new s t
   pub honest : HasCleanDisk new → HasCleanDisk old
 
--- the rows that are shown now were shown before, and so the state
+-- the rows that are shown now were shown before, and so the state; and the connection is open
 pub record Only (old new : Shown) : Type 0 where
   pub rows : (rows : RowsOf) → Holds new rows → Holds old rows
   pub same : (s : State) → HoldsState new s → HoldsState old s
+  pub up : IsTrue new.is_open
 
 -- What a call that only asks leaves; and where it answers, what is shown now was shown before.
 abbrev pub AsksOnly : {X E : Type 0} → Shown → Shown → Result X E → Type 0

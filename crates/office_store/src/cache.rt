@@ -1,6 +1,6 @@
 //! What is read of the zone that was read last, and of others by their rows. The cached zone follows the commits.
 
-ghost use Rattle.std.specs.Prelude.{◌≡◌, IfOk, IfSome, is_some, option_map};
+ghost use Rattle.std.specs.Prelude.{◌≡◌, IfOk, IfSome, OnOk, is_some, option_map};
 ghost use Rattle.sqlite.specs.Held.{state};
 ghost use Rattle.sqlite.specs.State.{HasCleanDisk};
 ghost use Rattle.zone_core.specs.Sets.{InOrder};
@@ -8,7 +8,9 @@ ghost use Rattle.office_model.specs.States.{State, part_at, subtree_at};
 ghost use Rattle.office_model.specs.Tables.{Fits, addition_in, committed, included};
 ghost use Rattle.store_faults.specs.StoreFaults.{Gives};
 ghost use Rattle.store_cache.specs.Cache.{cached_in};
-ghost use Rattle.office_store.specs.Queries.{AsksOnly};
+ghost use Rattle.store_sql.specs.Rows.{RowsOf};
+ghost use Rattle.store_sql.specs.Holds.{Holds};
+ghost use Rattle.office_store.specs.Queries.{Asked, AsksOnly};
 ghost use Rattle.office_store.specs.Holds.{HoldsState};
 ghost use Rattle.office_store.specs.Turns.{Turns};
 ghost use Rattle.office_store.specs.Zones.{exported};
@@ -136,7 +138,9 @@ fn cache_wanted<S: Alter>(
     origin: &Name,
 ) -> Result<(), StoreFault>
     requires fits { FitsCache (state S.Store conn.old) (cached_in cache.old) }
-    ensures asks { AsksOnly (state S.Store conn.old) (state S.Store conn.new) result }
+    ensures asked { Asked (state S.Store conn.old) (state S.Store conn.new) }
+    ensures only { HasCleanDisk (state S.Store conn.new)
+        → OnOk result ((rows : RowsOf) → Holds (state S.Store conn.new) rows → Holds (state S.Store conn.old) rows) }
     ensures fits { FitsCache (state S.Store conn.new) (cached_in cache.new) }
 {
     match read {

@@ -2,7 +2,7 @@
 
 ghost use Rattle.std.specs.Prelude.{◌≡◌, ◌+◌, ◌∷◌, false, pos, map, IfOk, IfErr, IfSome, IsTrue, OnOk, is_some, string_bytes, IsPermutation};
 ghost use Rattle.sqlite.specs.Held.{state};
-ghost use Rattle.sqlite.specs.State.{HasCleanDisk};
+ghost use Rattle.sqlite.specs.State.{HasCleanDisk, Shows};
 ghost use Rattle.dns_names.specs.Keys.{key_of};
 ghost use Rattle.dns_names.specs.Labels.{IsName};
 ghost use Rattle.dns_names.specs.Spelling.{name_text};
@@ -130,8 +130,8 @@ fn rows_at<S: Alter>(
         → Stands (records_at text.now (key_of origin.now) all.records)
         (λ rows. AreRowsAt text.now (map key_of (origin.now ∷ names.now)) all.records rows.items) found) }
     ensures asks { OnlyAsks (state S.Store conn.old) (state S.Store conn.new) }
-    ensures only { HasCleanDisk (state S.Store conn.new)
-        → OnOk result ((rows : RowsOf) → Holds (state S.Store conn.new) rows → Holds (state S.Store conn.old) rows) }
+    ensures same { HasCleanDisk (state S.Store conn.new)
+        → OnOk result (Shows (state S.Store conn.old) (state S.Store conn.new) (state S.Store conn.old).now (state S.Store conn.old).now false) }
 {
     let mut rows = records_at(alloc, conn, text, origin.key())?;
     // Each zone has an SOA at its origin.

@@ -8,6 +8,8 @@ pub mod DeadlineLemmas
 pub mod ServingLemmas
 pub mod UniqueLemmas
 pub mod PromiseLemmas
+pub mod CrashLemmas
+pub mod LifetimeLemmas
 pub mod ResponseLemmas
 pub mod DigitLemmas
 pub mod WindowLemmas

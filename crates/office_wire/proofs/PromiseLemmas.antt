@@ -53,13 +53,13 @@ module _ (rules : List Rule) where
 
   of_turn : (c d : Standing) (read : Result Call RequestFault) (response : Response) → Answers rules c read response d
       → IsRunOf rules c.state (call_in read response) (answer_in read response) d.state
-  of_turn c d read response (replied call reply e has r said after count) =
+  of_turn c d read response (replied call reply e has r said after other count) =
       let x = (turn rules c.state call).reply in
       one_call c.state d.state call x (call_in read response) (answer_in read response)
       ((λ i. call_in (e i) (r i)) ∙ ap (λ (o : Option ReplyOf). one_kept call o) said)
       ((λ i. answer_in (e i) (r i)) ∙ ap (λ (o : Option ReplyOf). one_given call o) said)
       refl after has
-  of_turn c d read response (failed fault r stays count) =
+  of_turn c d read response (failed fault r stays other count) =
       no_call c.state d.state (call_in read response) (answer_in read response)
       (ap (λ (o : Response). call_in read o) r ∙ none_called read fault) (ap (λ (o : Response). answer_in read o) r ∙ none_given read fault) stays
   of_turn c d read response (refused fault e r stays) =
@@ -92,6 +92,12 @@ module _ (rules : List Rule) where
   of_turns c d (t ∷ turns) run =
       run_join c.state run.0.state d.state (call_in (call_of t.head t.body) t.response) (calls turns) (answer_in (call_of t.head t.body) t.response) (given turns)
       (of_turn c run.0 (call_of t.head t.body) t.response run.1) (of_turns run.0 d turns run.2)
+
+pub run_answers : (rules : List Rule) (c d : Standing) (turns : List Turn) → Run rules c turns d → given turns ≡ answers rules c.state (calls turns)
+run_answers rules c d turns run = (of_turns rules c d turns run).given
+
+pub run_leads : (rules : List Rule) (c d : Standing) (turns : List Turn) → Run rules c turns d → d.state ≡ state_after rules c.state (calls turns)
+run_leads rules c d turns run = (of_turns rules c d turns run).after
 
 pub exchanges_run : ExchangesAreRuns
 exchanges_run rules c d turns zones receipts run =

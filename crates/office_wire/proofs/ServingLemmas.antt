@@ -1,5 +1,5 @@
 -- What was read of a stream, and what was answered to it.
-use Rattle.std.proofs.Common.{◌≡◌, ◌<◌, ◌≤◌, ◌+◌, length-append, ℕ, true, false, length, List, [], ◌++◌, ◌∷◌, ◌∙◌, sym, ap, refl, subst, arith, append-nil, append_assoc, Option, IfSome, Result, Ok, Err, ◌⊎◌, inl, inr}
+use Rattle.std.proofs.Common.{◌≡◌, ◌≢◌, ◌<◌, ◌≤◌, ◌+◌, length-append, ℕ, true, false, length, List, [], ◌++◌, ◌∷◌, ◌∙◌, sym, ap, refl, subst, arith, append-nil, append_assoc, Option, IfSome, Result, Ok, Err, ◌⊎◌, inl, inr}
 use Rattle.std.specs.List.{list_all}
 use Rattle.std.specs.Io.KnownBytes.{Appends, Consumes, Keeps, IsAtEnd}
 use Rattle.std.proofs.lemmas.List.{nil_from_length}
@@ -26,6 +26,12 @@ use Rattle.office_wire.proofs.JoinLemmas.{leads_join, three, texts_join, exchang
 
 too_long : (a b k : ℕ) → a ≡ 0 → a ≡ k + b → 0 < k → ⊥
 too_long a b k p q r = omega arith
+
+pub at_least_none : (n : ℕ) → 0 ≤ n
+at_least_none n = omega arith
+
+pub at_least_one : (least n : ℕ) → n ≢ 0 → least + 1 ≤ least + n
+at_least_one least n some = omega (arith, some)
 
 -- a read that gave nothing
 pub none_came : (now old got : List ℕ) (n : ℕ) → now ≡ old ++ got → length got ≡ n → n ≡ 0 → now ≡ old

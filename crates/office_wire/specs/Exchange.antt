@@ -1,10 +1,10 @@
 -- A stream of requests, what they are answered, and what is written to it.
-use Rattle.std.specs.Prelude.{◌≡◌, ℕ, ◌<◌, ◌≤◌, ◌⊎◌, Bool, true, false, List, [], ◌∷◌, ◌++◌, length, ◌==◌, ◌||◌, codes, Result, Ok, Err, Some}
+use Rattle.std.specs.Prelude.{◌≡◌, ℕ, ◌<◌, ◌≤◌, ◌⊎◌, Bool, true, false, List, [], ◌∷◌, ◌++◌, length, ◌==◌, ◌||◌, codes, Option, Result, Ok, Err, Some}
 use Rattle.std.specs.List.{flat_map, list_any, list_all, AllByRecursion}
 use Rattle.httparse.specs.Grammar.{RequestHead, IsRequestHead, ReadsRequest, HasNoRequest, MayBecomeRequest, print_request}
 use Rattle.grant_policy.specs.declared.rule.Rule.{Rule}
 use Rattle.office_model.specs.declared.table_fault.StepFault.{StepFault}
-use Rattle.office_model.specs.declared.table_fault.StepFault.TheVariants.{BeforeCommit}
+use Rattle.office_model.specs.declared.table_fault.StepFault.TheVariants.{BeforeCommit, Commit}
 use Rattle.office_model.specs.TableFaults.{cause}
 use Rattle.office_model.specs.declared.table_fault.TableFault.TheVariants as faults
 use Rattle.office_model.specs.declared.reply.Reply.{Reply}
@@ -14,6 +14,7 @@ use Rattle.office_model.specs.Replies.{reply_of}
 use Rattle.office_model.specs.States.{State}
 use Rattle.office_model.specs.Tables.{CountsFault}
 use Rattle.office_core.specs.Runs.{HasUpdate, turn}
+use Rattle.office_core.specs.Steps.{other_after}
 use Rattle.office_wire.specs.declared.method.Method.{Method}
 use Rattle.office_wire.specs.declared.method.Method.TheVariants.{Other}
 use Rattle.office_wire.specs.declared.refusal.Refusal.{Refusal}
@@ -85,9 +86,11 @@ pub record IsOpenTurn (t : Turn) : Type 0 where
 
 -- ---- what is answered
 
--- the state that a table holds, and how many of its calls have failed
+-- how a table stands: the state that it holds, the other one that a crash may leave in its place, where that is known, and how many of its
+-- calls have failed
 pub record Standing : Type 0 where
   pub state : State
+  pub other : Option State
   pub failures : ℕ
 
 -- a refusal as a response
@@ -96,15 +99,22 @@ refusing (wrong.Refused refusal) = Refusing refusal
 refusing (wrong.BadBody number) = BadBody number
 refusing wrong.NoMemory = Replied (Servfail (BeforeCommit faults.NoMemory))
 
+-- The other state that a crash may leave behind a SERVFAIL: where the commit failed, the one after the call; else the one that it might
+-- have left before.
+abbrev pub LeavesOther : List Rule → State → Result Call RequestFault → StepFault → Option State → Option State → Type 0
+LeavesOther rules s read (BeforeCommit fault) before after = after ≡ before
+LeavesOther rules s read (Commit fault) before after = (call : Call) × (read ≡ Ok call) × (after ≡ Some (turn rules s call).after)
+
 -- What is answered to what was read of a request, and how the table stands behind it: the machine's reply to a call, with the state
 -- behind its turn; SERVFAIL, where the table failed or memory ran out, and then the state is as it was; or a refusal, and then it is
 -- too.
 pub data Answers (rules : List Rule) (c : Standing) (read : Result Call RequestFault) (response : Response) (d : Standing) : Type 0 where
   replied : (call : Call) (reply : Reply) → read ≡ Ok call → HasUpdate call.request → response ≡ Replied reply
-      → reply_of reply ≡ Some (turn rules c.state call).reply → d.state ≡ (turn rules c.state call).after → d.failures ≡ c.failures
+      → reply_of reply ≡ Some (turn rules c.state call).reply → d.state ≡ (turn rules c.state call).after
+      → d.other ≡ other_after call.request (turn rules c.state call).after c.other → d.failures ≡ c.failures
       → Answers rules c read response d
-  failed : (fault : StepFault) → response ≡ Replied (Servfail fault) → d.state ≡ c.state → CountsFault c.failures d.failures (cause fault)
-      → Answers rules c read response d
+  failed : (fault : StepFault) → response ≡ Replied (Servfail fault) → d.state ≡ c.state → LeavesOther rules c.state read fault c.other d.other
+      → CountsFault c.failures d.failures (cause fault) → Answers rules c read response d
   refused : (fault : RequestFault) → read ≡ Err fault → response ≡ refusing fault → d ≡ c → Answers rules c read response d
 
 -- these turns, one after the other, take a table from one standing to another

@@ -11,6 +11,7 @@ pub mod ShortResponses
 pub mod Framing
 pub mod Servfails
 pub mod Promises
+pub mod Lifetimes
 pub mod Order
 pub mod Serving
 pub mod Deadlines

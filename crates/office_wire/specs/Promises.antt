@@ -1,11 +1,13 @@
 -- What is promised of the calls of an exchange.
-use Rattle.std.specs.Prelude.{◌≡◌, List, [], Result, Ok}
+use Rattle.std.specs.Prelude.{◌≡◌, ◌⊎◌, List, [], ◌∷◌, ◌++◌, Some, Result, Ok}
 use Rattle.std.specs.List.{flat_map}
 use Rattle.grant_policy.specs.declared.rule.Rule.{Rule}
 use Rattle.office_model.specs.declared.request.Call.{Call}
+use Rattle.office_model.specs.declared.table_fault.StepFault.{StepFault}
+use Rattle.office_model.specs.declared.reply.Reply.TheVariants.{Servfail}
 use Rattle.office_model.specs.Replies.{reply_of}
 use Rattle.office_model.specs.States.{State, AreZones, AreReceipts}
-use Rattle.office_core.specs.Runs.{Answer, answers, state_after, one_kept, one_given}
+use Rattle.office_core.specs.Runs.{Answer, turn, answers, state_after, one_kept, one_given}
 use Rattle.office_core.specs.Promises.{CallsAreRight}
 use Rattle.office_core.specs.RightAnswers.{AnswersAreRight}
 use Rattle.office_core.specs.Isolation.{AreAnsweredAlone}
@@ -43,8 +45,37 @@ pub record ArePromised (rules : List Rule) (s : State) (turns : List Turn) (t : 
   pub answered : AnswersAreRight rules s (calls turns) (given turns)
   pub alone : AreAnsweredAlone rules s (calls turns) (given turns)
 
+-- the state after a call
+abbrev pub after_call : List Rule → State → Call → State
+after_call rules s call = (turn rules s call).after
+
 -- exchanges are runs of the machine
 abbrev pub ExchangesAreRuns : Type 0
 ExchangesAreRuns =
     (rules : List Rule) (c d : Standing) (turns : List Turn) → AreZones c.state → AreReceipts c.state → Run rules c turns d
     → ArePromised rules c.state turns d.state
+
+-- ---- crashes
+
+-- this turn is of the call, and was answered SERVFAIL
+pub record IsUnanswered (call : Call) (t : Turn) : Type 0 where
+  pub asked : call_of t.head t.body ≡ Ok call
+  pub fault : StepFault
+  pub told : t.response ≡ Replied (Servfail fault)
+
+-- The other state that a crash may leave is the one after one more call, of a turn that was answered SERVFAIL.
+pub record IsInHand (rules : List Rule) (turns : List Turn) (d : Standing) : Type 0 where
+  pub earlier : List Turn
+  pub turn : Turn
+  pub later : List Turn
+  pub among : turns ≡ earlier ++ turn ∷ later
+  pub call : Call
+  pub unanswered : IsUnanswered call turn
+  pub left : d.other ≡ Some (after_call rules d.state call)
+
+-- Where a crash left nothing but the state before turns, behind them it leaves the state after those that were answered, or the one after one
+-- more call, which was answered SERVFAIL.
+abbrev pub CrashesLeaveOneMore : Type 0
+CrashesLeaveOneMore =
+    (rules : List Rule) (c d : Standing) (turns : List Turn) → c.other ≡ Some c.state → Run rules c turns d
+    → (d.other ≡ Some d.state) ⊎ IsInHand rules turns d

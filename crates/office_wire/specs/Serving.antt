@@ -6,7 +6,7 @@ use Rattle.dns_master.specs.declared.device.DeviceFailed.{DeviceFailed}
 use Rattle.dns_master.specs.Written.{IsProperPrefix}
 use Rattle.grant_policy.specs.declared.rule.Rule.{Rule}
 use Rattle.office_model.specs.declared.request.Call.{Call}
-use Rattle.office_model.specs.States.{State}
+use Rattle.office_model.specs.Tables.{Kept}
 use Rattle.office_wire.specs.declared.method.Method.{Method}
 use Rattle.office_wire.specs.declared.refusal.Refusal.TheVariants.{CutShort}
 use Rattle.office_wire.specs.declared.request_fault.RequestFault.{RequestFault}
@@ -28,8 +28,8 @@ use Rattle.office_wire.specs.Servfails.{noted, servfails, servfail_in}
 use Rattle.office_wire.specs.Order.{Flow, Moment, Writes, IsServedInTurn}
 
 -- how a table stands
-abbrev pub standing : State → ℕ → Standing
-standing s failures = record { state = s; failures = failures }
+abbrev pub standing : Kept → ℕ → Standing
+standing kept failures = record { state = kept.state; other = kept.other; failures = failures }
 
 -- ---- the whole
 
@@ -96,8 +96,8 @@ pub record Mark : Type 0 where
   pub standing : Standing
   pub note : Servfails
 
-abbrev pub mark : State → ℕ → Servfails → Mark
-mark s failures note = record { standing = standing s failures; note = note }
+abbrev pub mark : Kept → ℕ → Servfails → Mark
+mark kept failures note = record { standing = standing kept failures; note = note }
 
 -- these turns take a table from one standing to another, and are noted behind those before
 abbrev pub Leads : List Rule → Mark → List Turn → Mark → Type 0

@@ -2,7 +2,7 @@
 
 ghost use Rattle.std.specs.Prelude.{◌≡◌, ◌||◌, length, IsUtf8};
 ghost use Rattle.httparse.specs.Grammar.{RequestHead};
-ghost use Rattle.office_model.specs.States.{State};
+ghost use Rattle.office_model.specs.Tables.{Keeps, Kept};
 ghost use Rattle.office_core.specs.Bookmarks.{AreBookmarks};
 ghost use Rattle.office_wire.specs.Exchange.{Answers, names_nobody};
 ghost use Rattle.office_wire.specs.Framing.{IsAsked};
@@ -80,9 +80,9 @@ impl Service<'_> {
         received: &Received<'_>,
     ) -> Response
         requires { IsUtf8 received.now.heading.target.now }
-        ensures answers { T.is_honest table.new → (s : State) → T.holds table.old s × AreBookmarks self.old.policy.now s self.old.bookmarks
+        ensures answers { T.is_honest table.new → (s : Kept) → Keeps (T.holds table.old) (T.leaves table.old) s × AreBookmarks self.old.policy.now s.state self.old.bookmarks
             → (h : RequestHead) → IsAsked received.now.heading h
-            → (t : State) × (T.holds table.new t × AreBookmarks self.old.policy.now t self.new.bookmarks)
+            → (t : Kept) × (Keeps (T.holds table.new) (T.leaves table.new) t × AreBookmarks self.old.policy.now t.state self.new.bookmarks)
             × Answers self.old.policy.now (standing s (T.failures table.old)) (call_of h received.now.body.now) result (standing t (T.failures table.new)) }
         ensures policy { self.new.policy ≡ self.old.policy }
         ensures noted { self.new.servfails ≡ self.old.servfails }
@@ -114,9 +114,9 @@ impl Service<'_> {
         out: &mut ResponseBuffer,
     ) -> bool
         requires { IsUtf8 received.now.heading.target.now }
-        ensures answered { T.is_honest table.new → (s : State) → T.holds table.old s × AreBookmarks self.old.policy.now s self.old.bookmarks
+        ensures answered { T.is_honest table.new → (s : Kept) → Keeps (T.holds table.old) (T.leaves table.old) s × AreBookmarks self.old.policy.now s.state self.old.bookmarks
             → (h : RequestHead) → IsAsked received.now.heading h
-            → (t : State) × (T.holds table.new t × AreBookmarks self.old.policy.now t self.new.bookmarks)
+            → (t : Kept) × (Keeps (T.holds table.new) (T.leaves table.new) t × AreBookmarks self.old.policy.now t.state self.new.bookmarks)
             × IsReplied self.old.policy.now (mark s (T.failures table.old) self.old.servfails) (call_of h received.now.body.now)
             received.now.heading.method received.now.heading.closes result out.new (mark t (T.failures table.new) self.new.servfails) }
         ensures policy { self.new.policy ≡ self.old.policy }
@@ -135,8 +135,8 @@ impl Service<'_> {
     /// Answers the request that the octets begin with, where it is complete.
     fn answer<T: ZoneTable>(&mut self, workspace: &mut Workspace, table: &mut T) -> Progress
         ensures stands { Stands workspace.old.requests result }
-        ensures answered { T.is_honest table.new → (s : State) → T.holds table.old s × AreBookmarks self.old.policy.now s self.old.bookmarks
-            → (t : State) × (T.holds table.new t × AreBookmarks self.old.policy.now t self.new.bookmarks)
+        ensures answered { T.is_honest table.new → (s : Kept) → Keeps (T.holds table.old) (T.leaves table.old) s × AreBookmarks self.old.policy.now s.state self.old.bookmarks
+            → (t : Kept) × (Keeps (T.holds table.new) (T.leaves table.new) t × AreBookmarks self.old.policy.now t.state self.new.bookmarks)
             × IsProgress self.old.policy.now (mark s (T.failures table.old) self.old.servfails) workspace.old.requests result
             workspace.new.out (mark t (T.failures table.new) self.new.servfails) }
         ensures same { workspace.new.requests ≡ workspace.old.requests }
@@ -178,8 +178,8 @@ impl Service<'_> {
         deadline: &mut D,
     ) -> Result<Stage, DeviceFailed>
         ensures idle { IsIdle result workspace.new.requests }
-        ensures served { T.is_honest table.new → (s : State) → T.holds table.old s × AreBookmarks self.old.policy.now s self.old.bookmarks
-            → (t : State) × (T.holds table.new t × AreBookmarks self.old.policy.now t self.new.bookmarks)
+        ensures served { T.is_honest table.new → (s : Kept) → Keeps (T.holds table.old) (T.leaves table.old) s × AreBookmarks self.old.policy.now s.state self.old.bookmarks
+            → (t : Kept) × (Keeps (T.holds table.new) (T.leaves table.new) t × AreBookmarks self.old.policy.now t.state self.new.bookmarks)
             × IsServed self.old.policy.now (mark s (T.failures table.old) self.old.servfails) workspace.old.requests result
             workspace.new.requests (moment (S.flow stream.old)) (moment (S.flow stream.new)) (D.asked deadline.old) (D.asked deadline.new)
             (mark t (T.failures table.new) self.new.servfails) }

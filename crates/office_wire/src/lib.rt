@@ -30,8 +30,8 @@ mod workspace;
 pub use deadline::{Deadline, Never};
 pub use ending::Ending;
 pub use laws::{
-    exchanges_are_runs, framing_is_unique, parts_are_segments, routes_are_their_paths,
-    segments_are_between_slashes, targets_have_one_row,
+    crashes_leave_one_more, exchanges_are_runs, framing_is_unique, histories_are_one,
+    parts_are_segments, routes_are_their_paths, segments_are_between_slashes, targets_have_one_row,
 };
 pub use refusal::Refusal;
 pub use responder::{Responder, serve};

@@ -2,6 +2,7 @@
 
 ghost use Rattle.std.specs.Prelude.{◌≡◌, ◌<◌, List};
 ghost use Rattle.office_model.specs.States.{State};
+ghost use Rattle.office_model.specs.Tables.{Keeps, Kept};
 ghost use Rattle.office_wire.specs.Exchange.{Turn, Run};
 ghost use Rattle.office_wire.specs.Promises.{ArePromised};
 ghost use Rattle.office_wire.specs.Serving.{standing, IsDone, IsStreamServed, CountsServed, CountsEnded};
@@ -62,10 +63,10 @@ impl<'a> Responder<'a> {
     ) -> Served
         // Each response goes out whole before the next read, so a peer that waits for it before it sends more gets it. What is noted
         // is noted of the turns of the stream.
-        ensures run { T.is_honest table.new → (s : State) → T.holds table.old s × Fits self.old s
-            → (turns : List Turn) × (t : State) × (T.holds table.new t × Fits self.new t)
+        ensures run { T.is_honest table.new → (s : Kept) → Keeps (T.holds table.old) (T.leaves table.old) s × Fits self.old s.state
+            → (turns : List Turn) × (t : Kept) × (Keeps (T.holds table.new) (T.leaves table.new) t × Fits self.new t.state)
             × Run (rules_of self.old) (standing s (T.failures table.old)) turns (standing t (T.failures table.new))
-            × ArePromised (rules_of self.old) s turns t × AreNoted (servfails turns) result.servfails
+            × ArePromised (rules_of self.old) s.state turns t.state × AreNoted (servfails turns) result.servfails
             × IsStreamServed turns result.ended (S.flow stream.old) (S.flow stream.new)
             × CountsAsked turns result.ended (D.asked deadline.old) (D.asked deadline.new) }
         ensures rules { rules_of self.new ≡ rules_of self.old }
@@ -106,11 +107,11 @@ fn serve_whole<S: Stream, T: ZoneTable, L: Ledger>(
     requires name { blank.name ≡ L.name }
     requires parts { blank.parts ≡ L.parts }
     requires some { 0 < blank.parts }
-    ensures run { T.is_honest table.new → (s : State) → T.holds table.old s
-        → (turns : List Turn) × (t : State) × T.holds table.new t
+    ensures run { T.is_honest table.new → (s : Kept) → Keeps (T.holds table.old) (T.leaves table.old) s
+        → (turns : List Turn) × (t : Kept) × Keeps (T.holds table.new) (T.leaves table.new) t
         × Run policy.now (standing s (T.failures table.old)) turns (standing t (T.failures table.new))
         × IsDone turns result (S.flow stream.old).remaining (S.flow stream.new).remaining (S.flow stream.old).contents (S.flow stream.new).contents
-        × ArePromised policy.now s turns t }
+        × ArePromised policy.now s.state turns t.state }
     ensures honest { T.is_honest table.new → T.is_honest table.old }
     ensures devices { CountsServed result (S.failed_reads stream.old) (S.failed_reads stream.new) (S.failed_writes stream.old)
         (S.failed_writes stream.new) }
@@ -144,13 +145,14 @@ pub fn serve<R: Source, W: Sink, T: ZoneTable>(
     table: &mut T,
     policy: &Policy,
 ) -> Result<(), ServeFault>
-    // Where the store has kept its word, there are turns that take the table from how it stood to how it stands: they are the
-    // requests of the stream, their responses are what was written, and what the office promises of calls holds of theirs.
-    ensures run { T.is_honest table.new → (s : State) → T.holds table.old s
-        → (turns : List Turn) × (t : State) × T.holds table.new t
+    // Where the store has kept its word, there are turns that take the table from how it stood to how it stands, and what a crash
+    // would leave of it from the one to the other: they are the requests of the stream, their responses are what was written, and
+    // what the office promises of calls holds of theirs.
+    ensures run { T.is_honest table.new → (s : Kept) → Keeps (T.holds table.old) (T.leaves table.old) s
+        → (turns : List Turn) × (t : Kept) × Keeps (T.holds table.new) (T.leaves table.new) t
         × Run policy.now (standing s (T.failures table.old)) turns (standing t (T.failures table.new))
         × IsDone turns result (R.remaining reader.old) (R.remaining reader.new) (W.contents writer.old) (W.contents writer.new)
-        × ArePromised policy.now s turns t }
+        × ArePromised policy.now s.state turns t.state }
     // A store that has kept its word had kept it before.
     ensures honest { T.is_honest table.new → T.is_honest table.old }
     // A fault of a device is reported only if the device failed in this call, and it failed once. `Ok` means that neither failed.

@@ -2,7 +2,7 @@
 
 ghost use Rattle.std.specs.Prelude.{◌≡◌, length, List};
 ghost use Rattle.std.specs.List.{list_all};
-ghost use Rattle.office_model.specs.States.{State};
+ghost use Rattle.office_model.specs.Tables.{Keeps, Kept};
 ghost use Rattle.office_core.specs.Bookmarks.{AreBookmarks};
 ghost use Rattle.office_wire.specs.Exchange.{Turn, Waits, is_line_end};
 ghost use Rattle.office_wire.specs.Serving.{mark, Leads, IsStreamServed, CountsEnded, Finishes};
@@ -58,8 +58,8 @@ impl Service<'_> {
         deadline: &mut D,
     ) -> Result<Ending, ServeFault>
         requires { length workspace.old.requests ≡ 0 }
-        ensures run { T.is_honest table.new → (s : State) → T.holds table.old s × AreBookmarks self.old.policy.now s self.old.bookmarks
-            → (turns : List Turn) × (t : State) × (T.holds table.new t × AreBookmarks self.old.policy.now t self.new.bookmarks)
+        ensures run { T.is_honest table.new → (s : Kept) → Keeps (T.holds table.old) (T.leaves table.old) s × AreBookmarks self.old.policy.now s.state self.old.bookmarks
+            → (turns : List Turn) × (t : Kept) × (Keeps (T.holds table.new) (T.leaves table.new) t × AreBookmarks self.old.policy.now t.state self.new.bookmarks)
             × Leads self.old.policy.now (mark s (T.failures table.old) self.old.servfails) turns
             (mark t (T.failures table.new) self.new.servfails)
             × IsStreamServed turns result (S.flow stream.old) (S.flow stream.new)

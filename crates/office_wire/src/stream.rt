@@ -17,7 +17,7 @@ pub trait Stream {
     /// How many of its writes have failed so far.
     ghost failed_writes: { Self → ℕ };
 
-    /// What its reads and writes keep: of the stream before one of them and after it.
+    /// What a read or a write keeps, of the stream before the call and after it.
     ghost keeps: { Self → Self → Type 0 };
 
     /// Reads once, into a slice that is not empty, and answers how many octets came: none only at the end.
@@ -39,7 +39,7 @@ pub trait Stream {
         ensures still { failed_reads self.new ≡ failed_reads self.old }
         ensures kept { keeps self.old self.new };
 
-    // It is kept where there is none of them, and by several if by each.
+    // No call keeps it, and several calls keep it if each does.
     ghost same: { (s : Self) → keeps s s };
 
     ghost joins: { (a b c : Self) → keeps a b → keeps b c → keeps a c };

@@ -25,6 +25,8 @@ pub struct Callers<L: Ledger> {
     pub callers: Vec<Caller>,
     /// How many have connected.
     pub next: usize,
+    /// How the connection of the last one that was served ended.
+    pub ended: Result<Ending, ServeFault>,
     taken: Book<L>,
     share: Share<L>,
     ghost counts: { 0 < share.parts },
@@ -41,7 +43,8 @@ impl<L: Ledger> Listener for Callers<L> {
     ghost gives = { λ old peer new. (slice_get old.callers.items old.next ≡ Some peer) × (new.next ≡ old.next + 1)
         × (nobody : CallerOf) × (new.callers.items ≡ slice_set old.callers.items old.next nobody) };
 
-    ghost ends = { λ old peer new. (new.next ≡ old.next) × (new.callers.items ≡ slice_set old.callers.items (old.next - 1) peer) };
+    ghost ends = { λ old peer ended new. (new.next ≡ old.next) × (new.ended ≡ ended)
+        × (new.callers.items ≡ slice_set old.callers.items (old.next - 1) peer) };
 
     fn accept(&mut self) -> Result<Caller, DeviceFailed> {
         if self.next == self.callers.len() {
@@ -53,7 +56,8 @@ impl<L: Ledger> Listener for Callers<L> {
         Ok(peer)
     }
 
-    fn end(&mut self, peer: Caller, _ended: Result<Ending, ServeFault>) {
+    fn end(&mut self, peer: Caller, ended: Result<Ending, ServeFault>) {
+        self.ended = ended;
         let place = self.next.saturating_sub(1);
         if place < self.callers.len() {
             self.callers[place] = peer;
@@ -72,6 +76,7 @@ pub fn serve_callers<L: Ledger, T: ZoneTable, D: Diagnosis<T>, C: Clock, W: Sink
     ensures served { T.is_honest table.new → AreServedFrom
         (record {
           holds = T.holds;
+          leaves = T.leaves;
           failures = T.failures;
           fault = D.fault connections.now.diagnosis.now;
           gives = ⟦<Callers<L> as Listener>⟧.gives;

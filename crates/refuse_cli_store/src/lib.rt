@@ -17,7 +17,6 @@ use cli_core::{Job, StoreJob};
 use cli_store::{JobFault, LineFault, StoreFiles, Surroundings};
 use dns_master::{Sink, Source};
 use sqlite::{Alter, Connection};
-use std::net::TcpListener;
 use std::process::ExitCode;
 
 /// `do_job`.
@@ -36,7 +35,9 @@ pub fn do_job<
     output: &mut W,
     trace: &mut E,
 ) -> (Option<Connection<S>>, ExitCode)
-    ensures { JobEnds (M.around around.now) (stores_of (state S.Store) (P.finds files) (P.refuses files) (P.connects files))
+    ensures { JobEnds (M.around around.now)
+        (record { cut = M.Listener.cut; gives = M.Listener.gives; ends = M.Listener.ends; flow = M.Listener.Peer.flow; limits = M.Listener.Peer.limits })
+        (stores_of (state S.Store) (P.finds files) (P.refuses files) (P.connects files))
         (record { left = R.remaining input.old; rest = R.remaining input.new; before = R.failures input.old; after = R.failures input.new })
         (record { old = W.contents output.old; new = W.contents output.new; before = W.failures output.old; after = W.failures output.new })
         (record { old = E.contents trace.old; new = E.contents trace.new; before = E.failures trace.old; after = E.failures trace.new }) job.entry result.0
@@ -61,7 +62,9 @@ pub fn do_words<
     output: &mut W,
     trace: &mut E,
 ) -> (Option<Connection<S>>, ExitCode)
-    ensures { WordsEnd (M.around around.now) (stores_of (state S.Store) (P.finds files) (P.refuses files) (P.connects files))
+    ensures { WordsEnd (M.around around.now)
+        (record { cut = M.Listener.cut; gives = M.Listener.gives; ends = M.Listener.ends; flow = M.Listener.Peer.flow; limits = M.Listener.Peer.limits })
+        (stores_of (state S.Store) (P.finds files) (P.refuses files) (P.connects files))
         (record { left = R.remaining input.old; rest = R.remaining input.new; before = R.failures input.old; after = R.failures input.new })
         (record { old = W.contents output.old; new = W.contents output.new; before = W.failures output.old; after = W.failures output.new })
         (record { old = E.contents trace.old; new = E.contents trace.new; before = E.failures trace.old; after = E.failures trace.new })
@@ -74,7 +77,7 @@ pub fn do_words<
 pub fn listening_at<M: Surroundings>(
     around: &M,
     listen: &str,
-) -> Result<(TcpListener, String), LineFault>
+) -> Result<(M::Listener, String), LineFault>
     ensures told { IfOk result
         (λ listening. (address : SocketAddr) × IsHeard (M.around around.now) listen.now listening.0 address × (string_bytes listening.1 ≡ listening_line address)) }
     ensures refused { IfErr result (IsNoListener (M.around around.now) listen.now) }

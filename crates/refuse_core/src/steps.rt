@@ -1,6 +1,8 @@
 //! One step of the machine.
 
+ghost use Rattle.std.specs.Prelude.{Option};
 ghost use Rattle.office_model.specs.States.{State};
+ghost use Rattle.office_model.specs.Tables.{LeavesOr};
 ghost use Rattle.office_core.specs.Bookmarks.{AreBookmarks};
 ghost use Rattle.office_core.specs.Steps.{Steps, Leaves, CountsReply};
 
@@ -48,8 +50,8 @@ pub fn left_by_step<T: ZoneTable>(
     caller: &Identifier,
     wanted: &Request,
 ) -> Reply
-    ensures { T.is_honest table.new → (s : State) → T.holds table.old s → T.leaves table.old s s
-        → Leaves (T.leaves table.new) policy.now s caller.now wanted.now result }
+    ensures { T.is_honest table.new → (s : State) (other : Option State) → T.holds table.old s → LeavesOr (T.leaves table.old) s other
+        → Leaves (T.leaves table.new) policy.now s other caller.now wanted.now result }
 {
     office_core::step(alloc, table, policy, caller, wanted)
 }

@@ -1,7 +1,7 @@
 //! Streams of requests.
 
 ghost use Rattle.std.specs.Prelude.{◌≡◌, ◌<◌, ℕ, List, [], Option, Some};
-ghost use Rattle.office_model.specs.States.{State};
+ghost use Rattle.office_model.specs.Tables.{Keeps, Kept};
 ghost use Rattle.office_wire.specs.Exchange.{Turn, Run};
 ghost use Rattle.office_wire.specs.Serving.{standing, IsDone, CountsServed};
 ghost use Rattle.office_wire.specs.Deadlines.{CountsPassed};
@@ -37,8 +37,8 @@ pub fn serve_stream<S: Stream, T: ZoneTable, D: Deadline>(
     table: &mut T,
     deadline: &mut D,
 ) -> Served
-    ensures { T.is_honest table.new → (s : State) → T.holds table.old s × Fits responder.old s
-        → (turns : List Turn) × (t : State) × (T.holds table.new t × Fits responder.new t)
+    ensures { T.is_honest table.new → (s : Kept) → Keeps (T.holds table.old) (T.leaves table.old) s × Fits responder.old s.state
+        → (turns : List Turn) × (t : Kept) × (Keeps (T.holds table.new) (T.leaves table.new) t × Fits responder.new t.state)
         × Run (rules_of responder.old) (standing s (T.failures table.old)) turns (standing t (T.failures table.new))
         × AreNoted (servfails turns) result.servfails
         × IsServedInTurn turns (S.flow stream.old).events (S.flow stream.new).events }
@@ -75,8 +75,8 @@ pub fn serve_octets<L: Ledger, T: ZoneTable>(
     requires writes_name { writes.name ≡ L.name }
     requires writes_parts { writes.parts ≡ L.parts }
     requires writes_some { 0 < writes.parts }
-    ensures { T.is_honest table.new → (s : State) → T.holds table.old s
-        → (turns : List Turn) × (t : State) × (left : Option (List ℕ)) × T.holds table.new t
+    ensures { T.is_honest table.new → (s : Kept) → Keeps (T.holds table.old) (T.leaves table.old) s
+        → (turns : List Turn) × (t : Kept) × (left : Option (List ℕ)) × Keeps (T.holds table.new) (T.leaves table.new) t
         × Run policy.now (standing s (T.failures table.old)) turns (standing t (T.failures table.new))
         × IsDone turns result.1 (Some octets.items) left (Some []) (Some result.0.items) }
 {

@@ -4,7 +4,6 @@ ghost use Rattle.std.specs.Prelude.{◌≡◌, ◌<◌};
 
 use crate::callers_office::{listening, policy, table};
 use crate::client::{begun, push_answered, sent};
-use crate::program::Given;
 use anyhow::{Result, bail};
 use cli_store::{CountedListener, JobFault};
 use dns_master::Counted;
@@ -18,7 +17,7 @@ use std::time::Duration;
 use test_rows::{Answers, Row, push_unanswered};
 use wire_tcp::{Connections, Undiagnosed};
 
-/// An office, and those who call it.
+/// An office and its callers.
 #[derive(Drop)]
 pub struct Callers<'a> {
     rt: &'a HostRuntime,
@@ -73,21 +72,21 @@ impl<'a> Callers<'a> {
         }
     }
 
-    /// Connects and sends a text, behind which more can come.
+    /// Connects and sends a text. More can be sent after it.
     fn begin(&mut self, text: &[u8]) -> Result<()> {
         let caller = begun(self.rt, self.listener()?, text)?;
         self.callers.push(caller)?;
         Ok(())
     }
 
-    /// Connects and sends a text, behind which nothing comes.
+    /// Connects, sends a text and shuts the sending side.
     fn call(&mut self, text: &[u8]) -> Result<()> {
         let caller = sent(self.rt, self.listener()?, text)?;
         self.callers.push(caller)?;
         Ok(())
     }
 
-    /// Sends a text so many times, and is gone.
+    /// Connects, sends a text so many times and closes the connection.
     fn leave(&self, times: u64, text: &[u8]) -> Result<()> {
         let mut all = Vec::new(self.rt.alloc());
         for _ in 0..times {
@@ -129,7 +128,8 @@ fn push_served(
     let alloc = rt.alloc();
     let policy = policy(alloc)?;
     let mut table = table(alloc)?;
-    let served = served_from(rt, listener, connections, longest, &mut table, &policy);
+    let socket = listener.try_clone()?;
+    let served = served_from(rt, socket, connections, longest, &mut table, &policy);
     push_told(&served, answer)
 }
 
@@ -155,7 +155,7 @@ const PATIENCE: u64 = 300;
 /// Serves so many connections from a table.
 fn served_from<T: ZoneTable>(
     rt: &HostRuntime,
-    listener: &TcpListener,
+    socket: TcpListener,
     most: u64,
     longest: Option<Duration>,
     table: &mut T,
@@ -163,13 +163,13 @@ fn served_from<T: ZoneTable>(
 ) -> Served {
     let (taken, writes, traces) = (Blank::new(1), Blank::new(1), Blank::new(1));
     served_in::<_, Brand, Brand, Brand>(
-        rt, listener, most, longest, table, policy, taken, writes, traces,
+        rt, socket, most, longest, table, policy, taken, writes, traces,
     )
 }
 
 fn served_in<T: ZoneTable, L: Ledger, A: Ledger, B: Ledger>(
     rt: &HostRuntime,
-    listener: &TcpListener,
+    socket: TcpListener,
     most: u64,
     longest: Option<Duration>,
     table: &mut T,
@@ -191,8 +191,7 @@ fn served_in<T: ZoneTable, L: Ledger, A: Ledger, B: Ledger>(
     let alloc = rt.alloc();
     let mut sink: Counted<Vec<u8>, A> = Counted::new(Vec::new(alloc), writes);
     let mut trace: Counted<Vec<u8>, B> = Counted::new(Vec::new(alloc), traces);
-    let around = Given { rt, listener: None };
-    let mut listener: CountedListener<'_, _, L> = CountedListener::new(&around, listener, taken);
+    let mut listener: CountedListener<'_, _, _, L> = CountedListener::new(rt, socket, taken);
     let connections = Connections {
         alloc,
         policy,

@@ -5,10 +5,10 @@ ghost use Rattle.cli_store.specs.Around.{Around};
 
 use cli_store::{
     DeviceFailed, LineFault, MachineFiles, Streams, Surroundings, fold_log, heard, listen_at,
-    next_of, read_path, run_words,
+    read_path, run_words,
 };
 use std::alloc::{AllocError, Global};
-use std::net::{SocketAddr, TcpListener, TcpStream};
+use std::net::{SocketAddr, TcpListener};
 use std::process::ExitCode;
 
 /// A machine, and a listener that the program gets wherever it is to listen, if there is one.
@@ -23,7 +23,9 @@ pub struct Given<'a> {
 impl Surroundings for Given<'_> {
     type Clock = HostRuntime;
 
-    ghost around = { λ _. record { file = λ _. None; unreadable = λ _. ⊤; heard = λ _ _ _. ⊤; unheard = λ _. ⊤; cut = λ _. ⊤ } };
+    type Listener = TcpListener;
+
+    ghost around = { λ _. record { file = λ _. None; unreadable = λ _. ⊤; heard = λ _ _ _. ⊤; unheard = λ _. ⊤ } };
 
     fn alloc(&self) -> Global {
         self.rt.alloc()
@@ -46,10 +48,6 @@ impl Surroundings for Given<'_> {
             Some(listener) => heard(listener.try_clone()),
             None => listen_at(self.rt, address),
         }
-    }
-
-    fn accept(&self, listener: &TcpListener) -> Result<TcpStream, DeviceFailed> {
-        next_of(listener)
     }
 }
 

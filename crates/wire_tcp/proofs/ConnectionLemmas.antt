@@ -53,7 +53,7 @@ module _ {T H P : Type 0} (w : Parties T H P) (rules : List Rule) (patience : Op
   visits_run (v ∷ visits) a b p =
       run_join rules (standing_at w a) (standing_at w p.0) (standing_at w b) v.turns (joined visits) p.1.run (visits_run visits p.0 b p.2)
 
-  pub are_served : (visits : List Visit) (a b : Moment T H) → AreZones a.state → AreReceipts a.state → AreVisits w rules patience visits a b
+  pub are_served : (visits : List Visit) (a b : Moment T H) → AreZones a.kept.state → AreReceipts a.kept.state → AreVisits w rules patience visits a b
       → AreServed w rules patience visits a b
   are_served visits a b zones receipts p =
       let ran = visits_run visits a b p in

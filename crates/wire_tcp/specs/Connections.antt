@@ -18,6 +18,7 @@ use Rattle.cli_core.specs.declared.line_fault.JobFault.TheVariants.{Reported, Wr
 use Rattle.cli_core.specs.Device.{AppendsFront}
 use Rattle.cli_core.specs.Replies.{line_of}
 use Rattle.office_model.specs.States.{State}
+use Rattle.office_model.specs.Tables.{Keeps, Kept}
 use Rattle.wire_tcp.specs.Causes.{trace_of}
 use Rattle.wire_tcp.specs.Limits.{AreWithin}
 
@@ -46,27 +47,28 @@ abbrev pub fault_of : Result Ending ServeFault → Option ServeFault
 fault_of (Ok ending) = None
 fault_of (Err fault) = Some fault
 
--- What a table holds, how many of its calls have failed, and why the last of them did; which peer a listener gives, and which it takes back;
--- and what is known of a peer, and of the limits of its reads and writes.
+-- What a table holds, what a crash leaves of it, how many of its calls have failed, and why the last of them did; which peer a listener gives,
+-- and which it takes back, with how its connection ended; and what is known of a peer, and of the limits of its reads and writes.
 pub record Parties (T H P : Type 0) : Type 1 where
   pub holds : T → State → Type 0
+  pub leaves : T → State → State → Type 0
   pub failures : T → ℕ
   pub fault : T → Option StoreFault
   pub gives : H → P → H → Type 0
-  pub ends : H → P → H → Type 0
+  pub ends : H → P → Result Ending ServeFault → H → Type 0
   pub flow : P → Flow
   pub limits : P → Option (List (Option ℕ))
 
--- a moment between two connections: the table, a state that it holds, and the listener
+-- a moment between two connections: the table, a state that it holds and what a crash leaves of it, and the listener
 pub record Moment (T H : Type 0) : Type 0 where
   pub table : T
-  pub state : State
+  pub kept : Kept
   pub listener : H
 
 abbrev pub standing_at : {T H P : Type 0} → Parties T H P → Moment T H → Standing
-standing_at w m = standing m.state (w.failures m.table)
+standing_at w m = standing m.kept (w.failures m.table)
 
--- A connection between two moments. Its peer was the next that the listener gave, and was handed back to it. The turns are the requests that
+-- A connection between two moments. Its peer was the next that the listener gave, and was handed back to it with how it ended. The turns are the requests that
 -- this peer sent, and what was written to it are their responses, each before more is read. They are answered by the rules and the state of
 -- the moment before, and lead to that of the moment after. No read or write was allowed to wait longer than the patience.
 pub record IsVisit {T H P : Type 0} (w : Parties T H P) (rules : List Rule) (patience : Option ℕ) (v : Visit) (before after : Moment T H) : Type 0 where
@@ -74,11 +76,11 @@ pub record IsVisit {T H P : Type 0} (w : Parties T H P) (rules : List Rule) (pat
   pub went : P
   pub between : H
   pub given : w.gives before.listener came between
-  pub back : w.ends between went after.listener
+  pub back : w.ends between went v.ended after.listener
   pub served : IsStreamServed v.turns v.ended (w.flow came) (w.flow went)
   pub patient : AreWithin patience (w.limits came) (w.limits went)
   pub run : Run rules (standing_at w before) v.turns (standing_at w after)
-  pub holds : w.holds after.table after.state
+  pub keeps : Keeps (w.holds after.table) (w.leaves after.table) after.kept
   pub store : v.store ≡ w.fault after.table
 
 -- one connection after the other
@@ -104,7 +106,7 @@ trace_at v = trace_of (servfails v.turns) v.store
 abbrev pub traces : List Visit → List ℕ
 traces visits = flat_map trace_at visits
 
--- what a writer held before and after, and its failures before and after
+-- a stream that is written: what it held before and after, and its failures before and after
 pub record Writing : Type 0 where
   pub old : Option (List ℕ)
   pub new : Option (List ℕ)
@@ -120,7 +122,7 @@ pub record AreTraced (visits : List Visit) (o : Writing) : Type 0 where
 pub record AreServed {T H P : Type 0} (w : Parties T H P) (rules : List Rule) (patience : Option ℕ) (visits : List Visit) (before after : Moment T H) : Type 0 where
   pub each : AreVisits w rules patience visits before after
   pub run : Run rules (standing_at w before) (joined visits) (standing_at w after)
-  pub promised : ArePromised rules before.state (joined visits) after.state
+  pub promised : ArePromised rules before.kept.state (joined visits) after.kept.state
 
 -- That no connection can be had, how many were asked for, how each ended that was served, what the writer held before and after, the answer,
 -- and the writer's failures before and after. A line tells each fault that ended one. Fewer are served only where one cannot be had, which is
@@ -142,10 +144,11 @@ pub record Asked : Type 1 where
   pub cut : Type 0
 
 -- What is asked, the moment before but for the state, the table and the listener after, the answer, and what was written of connections and of
--- their failures. From each state that the table held, connections were served, one after the other, up to one that it holds now; a line
+-- their failures. From each state that the table held, connections were served, one after the other, up to one that it holds now, and so of
+-- what a crash leaves; a line
 -- tells each fault that ended one of them; and the trace tells of those of their requests that were answered SERVFAIL.
 abbrev pub AreServedFrom : {T H P : Type 0} → Parties T H P → Asked → T → H → T → H → Result (Unit {0}) JobFault → Writing → Writing → Type 0
 AreServedFrom w asked table listener table_after listener_after result lines trace =
-    (s : State) → w.holds table s → (visits : List Visit) × (t : State) × w.holds table_after t
-    × AreServed w asked.rules asked.patience visits (record { table = table; state = s; listener = listener }) (record { table = table_after; state = t; listener = listener_after })
+    (s : Kept) → Keeps (w.holds table) (w.leaves table) s → (visits : List Visit) × (t : Kept) × Keeps (w.holds table_after) (w.leaves table_after) t
+    × AreServed w asked.rules asked.patience visits (record { table = table; kept = s; listener = listener }) (record { table = table_after; kept = t; listener = listener_after })
     × AreReported asked.cut asked.most (ends visits) lines.old lines.new result lines.before lines.after × AreTraced visits trace

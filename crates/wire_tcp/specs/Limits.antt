@@ -19,15 +19,15 @@ patience_in given = seconds_in 30 given
 abbrev pub longest_in : Option ℕ → Option ℕ
 longest_in given = seconds_in 60 given
 
--- a limit is one of at most this patience, where that has a limit
+-- a limit of a read or a write is at most the patience, where there is one
 abbrev pub IsWithin : Option ℕ → Option ℕ → Type 0
 IsWithin patience limit = MatchOption patience ⊤ (λ longest. IsSomeAnd limit (λ time. time ≤ longest))
 
--- each of the limits that came between before and now is so; it says nothing where they are unknown
+-- Each limit that was set between two moments is at most the patience, where the limits are known.
 abbrev pub AreWithin : Option ℕ → Option (List (Option ℕ)) → Option (List (Option ℕ)) → Type 0
 AreWithin patience before now = (limits : List (Option ℕ)) × Follows before now limits × AllByRecursion (IsWithin patience) limits
 
--- where there is none between them
+-- it holds between a moment and itself
 pub within_none : (patience : Option ℕ) (a : Option (List (Option ℕ))) → AreWithin patience a a
 within_none patience a = ([], follows_none a, tt)
 
@@ -35,6 +35,6 @@ all_join : (P : Option ℕ → Type 0) (xs ys : List (Option ℕ)) → AllByRecu
 all_join P [] ys p q = q
 all_join P (x ∷ xs) ys p q = (p.0, all_join P xs ys p.1 q)
 
--- and of several, if of each
+-- and between the first and the last of three, if between each two
 pub within_joins : (patience : Option ℕ) (a b c : Option (List (Option ℕ))) → AreWithin patience a b → AreWithin patience b c → AreWithin patience a c
 within_joins patience a b c p q = (p.0 ++ q.0, follows_join a b c p.0 q.0 p.1 q.1, all_join (IsWithin patience) p.0 q.0 p.2 q.2)

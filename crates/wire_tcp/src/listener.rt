@@ -1,6 +1,8 @@
 //! Where connections come from.
 
-ghost use Rattle.std.specs.Prelude.{◌≡◌, ◌+◌, ℕ, IfOk, OnOk, OnErr};
+ghost use Rattle.std.specs.Prelude.{◌≡◌, ◌+◌, ℕ, Result, IfOk, OnOk, OnErr};
+ghost use Rattle.office_wire.specs.declared.ending.Ending.{Ending as EndingOf};
+ghost use Rattle.office_wire.specs.declared.serve_fault.ServeFault.{ServeFault as FaultOf};
 
 use crate::peer::Peer;
 use dns_master::DeviceFailed;
@@ -20,8 +22,8 @@ pub trait Listener {
     // This peer was the next to connect: the listener before it was taken, and after.
     ghost gives: { Self → Self.Peer → Self → Type 0 };
 
-    // This peer has been served: the listener before it was handed back, and after.
-    ghost ends: { Self → Self.Peer → Self → Type 0 };
+    // This peer is handed back, and its connection ended so: the listener before, and after.
+    ghost ends: { Self → Self.Peer → Result EndingOf FaultOf → Self → Type 0 };
 
     /// The next peer that connects. An error comes only where there is none to be had.
     fn accept(&mut self) -> Result<Self::Peer, DeviceFailed>
@@ -31,9 +33,9 @@ pub trait Listener {
         ensures none { OnErr result (self.new ≡ self.old) }
         ensures same { cut self.new → cut self.old };
 
-    /// Ends the connection of a peer, which has been served so. One that was served to its end may take the last response first.
+    /// Takes back a peer whose connection has ended so, and closes it. Where all was answered, the peer may take the last response first.
     fn end(&mut self, peer: Self::Peer, ended: Result<Ending, ServeFault>)
-        ensures given_back { ends self.old peer self.new }
+        ensures given_back { ends self.old peer ended self.new }
         ensures count { taken self.new ≡ taken self.old }
         ensures same { cut self.new → cut self.old };
 }

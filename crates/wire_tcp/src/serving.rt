@@ -2,7 +2,7 @@
 
 ghost use Rattle.std.specs.Prelude.{◌≡◌, ◌+◌, ◌<◌, ◌≤◌, List, Option, length, option_map};
 ghost use Rattle.std.specs.Duration.{as_nanos};
-ghost use Rattle.office_model.specs.States.{State};
+ghost use Rattle.office_model.specs.Tables.{Keeps, Kept};
 ghost use Rattle.office_wire.specs.Exchange.{Turn, Run};
 ghost use Rattle.office_wire.specs.Responders.{rules_of, Fits};
 ghost use Rattle.office_wire.specs.Serving.{standing, IsStreamServed};
@@ -92,8 +92,8 @@ impl<C: Clock, D> Connections<'_, C, D> {
         requires asks_name { blanks.1.name ≡ B.name }
         requires asks_parts { blanks.1.parts ≡ B.parts }
         requires asks_some { 1 < blanks.1.parts }
-        ensures run { T.is_honest table.new → (s : State) → T.holds table.old s × Fits responder.old s
-            → (turns : List Turn) × (t : State) × (T.holds table.new t × Fits responder.new t)
+        ensures run { T.is_honest table.new → (s : Kept) → Keeps (T.holds table.old) (T.leaves table.old) s × Fits responder.old s.state
+            → (turns : List Turn) × (t : Kept) × (Keeps (T.holds table.new) (T.leaves table.new) t × Fits responder.new t.state)
             × Run (rules_of responder.old) (standing s (T.failures table.old)) turns (standing t (T.failures table.new))
             × AreNoted (servfails turns) result.1.servfails × IsStreamServed turns result.1.ended (P.flow peer) (P.flow result.0) }
         ensures patient { AreWithin (option_map as_nanos self.now.patience) (P.limits peer) (P.limits result.0) }
@@ -119,8 +119,8 @@ impl<C: Clock, D> Connections<'_, C, D> {
         peer: P,
         table: &mut T,
     ) -> (P, Served)
-        ensures run { T.is_honest table.new → (s : State) → T.holds table.old s × Fits responder.old s
-            → (turns : List Turn) × (t : State) × (T.holds table.new t × Fits responder.new t)
+        ensures run { T.is_honest table.new → (s : Kept) → Keeps (T.holds table.old) (T.leaves table.old) s × Fits responder.old s.state
+            → (turns : List Turn) × (t : Kept) × (Keeps (T.holds table.new) (T.leaves table.new) t × Fits responder.new t.state)
             × Run (rules_of responder.old) (standing s (T.failures table.old)) turns (standing t (T.failures table.new))
             × AreNoted (servfails turns) result.1.servfails × IsStreamServed turns result.1.ended (P.flow peer) (P.flow result.0) }
         ensures patient { AreWithin (option_map as_nanos self.now.patience) (P.limits peer) (P.limits result.0) }
@@ -145,12 +145,13 @@ impl<C: Clock, D> Connections<'_, C, D> {
         D: Diagnosis<T>,
         // Where the store has kept its word: each peer that the listener gave is served, and what it was sent are the responses to the
         // requests that it sent, in order. They are answered by the policy and the states that they found, one connection after the other,
-        // which leads the table from how it stood to how it stands; and what the office promises of calls holds of all of them together,
-        // whichever connection each came by. A line is written for each connection that a fault ended, and the trace tells of those of the
+        // which leads the table from how it stood to how it stands, and so what a crash leaves of it; and what the office promises of calls
+        // holds of all of them together, whichever connection each came by. A line is written for each connection that a fault ended, and the trace tells of those of the
         // requests that were answered SERVFAIL.
         ensures served { T.is_honest table.new → AreServedFrom
             (record {
               holds = T.holds;
+              leaves = T.leaves;
               failures = T.failures;
               fault = D.fault self.now.diagnosis.now;
               gives = H.gives;

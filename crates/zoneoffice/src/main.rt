@@ -6,12 +6,12 @@ ghost use Rattle.cli_store.specs.Around.{Around};
 
 use cli_store::{
     DeviceFailed, LineFault, MachineFiles, NO_MEMORY_LINE, Streams, Surroundings, fold_log,
-    listen_at, next_of, read_path, run_words,
+    listen_at, read_path, run_words,
 };
 use std::alloc::{AllocError, Global};
 use std::env;
 use std::io::{self, ErrorKind};
-use std::net::{SocketAddr, TcpListener, TcpStream};
+use std::net::{SocketAddr, TcpListener};
 use std::process::ExitCode;
 
 /// Says on standard error which file cannot be read.
@@ -28,7 +28,9 @@ struct Process<'a>(&'a HostRuntime);
 impl Surroundings for Process<'_> {
     type Clock = HostRuntime;
 
-    ghost around = { λ _. record { file = λ _. None; unreadable = λ _. ⊤; heard = λ _ _ _. ⊤; unheard = λ _. ⊤; cut = λ _. ⊤ } };
+    type Listener = TcpListener;
+
+    ghost around = { λ _. record { file = λ _. None; unreadable = λ _. ⊤; heard = λ _ _ _. ⊤; unheard = λ _. ⊤ } };
 
     fn alloc(&self) -> Global {
         self.0.alloc()
@@ -53,10 +55,6 @@ impl Surroundings for Process<'_> {
     fn listen(&self, address: SocketAddr) -> Result<(TcpListener, SocketAddr), DeviceFailed> {
         listen_at(self.0, address)
     }
-
-    fn accept(&self, listener: &TcpListener) -> Result<TcpStream, DeviceFailed> {
-        next_of(listener)
-    }
 }
 
 /// Prints that there is no memory for the words.
@@ -65,7 +63,7 @@ fn no_memory(rt: &HostRuntime) -> ExitCode {
     ExitCode::FAILURE
 }
 
-/// Words as they are borrowed.
+/// Borrows each of the words.
 fn borrowed(alloc: Global, words: &[String]) -> Result<Vec<&str>, AllocError> {
     let mut texts = Vec::new(alloc);
     for word in words {

@@ -17,4 +17,4 @@ returns-clause-told g c =
     let told = c.in-Ok.ensures.told in
     let sent = rw told.2 at (rw c.as_bytes.ensures.value at c.in_ok-write_text.ensures) in
     let e = c.serve_listening.ensures in
-    inr (_, told.0, told.1, inr (_, sent.0, rw sent.1 at e.written, e.served))
+    inr (_, told.0, told.1, inr (_, sent.0, rw sent.1 at e.written, e.served.0, rw sent.1 at e.served.1))

@@ -2,7 +2,12 @@ use Rattle.std.proofs.Common.{refl}
 use Rattle.cli_store.proofs.store_file.adopted.Goals as goal
 
 pub returns-in-Ok-clause-opened : goal.returns-in-Ok-clause-opened
-returns-in-Ok-clause-opened g c = record { holds = c.in-Ok.ensures.found; asked = c.in-Ok.ensures.asked; only = c.in-Ok.ensures.only }
+returns-in-Ok-clause-opened g c = record {
+  holds = c.in-Ok.ensures.found;
+  asked = c.in-Ok.ensures.asked;
+  only = c.in-Ok.ensures.only;
+  left = λ clean db may. g.met.S.Store.settled c.in-Ok.table.conn.store db (c.in-Ok.ensures.only clean).up may;
+}
 
 pub returns-in-Err-clause-refused : goal.returns-in-Err-clause-refused
 returns-in-Err-clause-refused g c =

@@ -10,7 +10,7 @@ returns-in-Ok g c =
     let after = c.migrate-migrated.new.conn in
     let done = c.migrate-migrated.result in
     migrated_store (state g.S.Store) (g.P.StoreFiles.finds c.args.files c.args.path.now) (g.P.StoreFiles.refuses c.args.files c.args.path.now) (g.P.StoreFiles.connects c.args.files c.args.path.now) found after done c.in-Ok.ensures.connected
-    (migrated_to (state g.S.Store found) (state g.S.Store after) done e.made) (unmigrated (state g.S.Store found) (state g.S.Store after) done e.failed e.good e.wrong e.bad e.named)
+    (migrated_to (state g.S.Store found) (state g.S.Store after) done e.made) (unmigrated (state g.S.Store found) (state g.S.Store after) done e.failed e.good e.wrong e.bad e.named e.crash e.same)
 
 pub returns-in-Err : goal.returns-in-Err
 returns-in-Err g c = inl (c.in-Err.ensures.refused, refl)

@@ -40,7 +40,7 @@ returns-clause-asks g c =
     let mid = state g.S.Store c.check_tables.new.conn in
     let new = state g.S.Store c.versions.new.conn in (
       asked_more old mid new c.check_tables.ensures.asked c.versions.ensures.asks,
-      λ clean. only_of old new (λ rows h. subst (λ q. Holds (state g.S.Store q) rows) c.in_ok-check_tables.ensures.same (c.in_ok-versions.ensures.only clean rows h)),
+      λ clean. only_of old new (c.in_ok-versions.ensures.same clean).is_open (λ rows h. subst (λ q. Holds (state g.S.Store q) rows) c.in_ok-check_tables.ensures.same (c.in_ok-versions.ensures.only clean rows h)),
     )
 
 pub returns-in_err-versions-clause-asks : goal.returns-in_err-versions-clause-asks

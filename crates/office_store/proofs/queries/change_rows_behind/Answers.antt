@@ -5,7 +5,7 @@ use Rattle.std.proofs.lemmas.Int.{to_z-of_z}
 use Rattle.sqlite.specs.Held.{state}
 use Rattle.store_sql.specs.Lookups.{changes_between}
 use Rattle.dns_names.specs.Spelling.{name_text}
-use Rattle.office_store.proofs.QueryLemmas.{asked_more, asks_refused, found, only_of, only_then}
+use Rattle.office_store.proofs.QueryLemmas.{asked_more, asks_refused, found, only_shown, only_then}
 use Rattle.office_store.proofs.queries.change_rows_behind.Goals as goal
 
 pub returns-in_err-rows-clause-asks : goal.returns-in_err-rows-clause-asks
@@ -16,7 +16,7 @@ returns-in_err-rows-clause-asks g c =
 pub returns-clause-asks : goal.returns-clause-asks
 returns-clause-asks g c = (
   asked_more (state g.S.Store c.args.conn.now) (state g.S.Store c.held_text.new.conn) (state g.S.Store c.changes_between.new.conn) c.held_text.ensures.asks.0 c.changes_between.ensures.asks,
-  λ clean. only_then (state g.S.Store c.args.conn.now) (state g.S.Store c.held_text.new.conn) (state g.S.Store c.changes_between.new.conn) (c.in_ok-text.ensures.asks.1 (c.changes_between.ensures.asks.honest clean)) (only_of (state g.S.Store c.held_text.new.conn) (state g.S.Store c.changes_between.new.conn) (c.in_ok-rows.ensures.only clean)),
+  λ clean. only_then (state g.S.Store c.args.conn.now) (state g.S.Store c.held_text.new.conn) (state g.S.Store c.changes_between.new.conn) (c.in_ok-text.ensures.asks.1 (c.changes_between.ensures.asks.honest clean)) (only_shown (state g.S.Store c.held_text.new.conn) (state g.S.Store c.changes_between.new.conn) c.changes_between.ensures.asks (c.in_ok-rows.ensures.same clean)),
 )
 
 pub returns-clause-found : goal.returns-clause-found

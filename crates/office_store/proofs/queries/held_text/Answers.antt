@@ -23,7 +23,7 @@ pub returns-in_err-is_held-clause-asks : goal.returns-in_err-is_held-clause-asks
 returns-in_err-is_held-clause-asks g c = refused_once (state g.S.Store c.args.conn.now) (state g.S.Store c.has_zone.new.conn) c.from_residual-in_err-is_held.result c.from_residual-in_err-is_held.ensures.0 c.has_zone.ensures.asks
 
 pub returns-then-is_held-clause-asks : goal.returns-then-is_held-clause-asks
-returns-then-is_held-clause-asks g c = answered_once (state g.S.Store c.args.conn.now) (state g.S.Store c.has_zone.new.conn) c.has_zone.ensures.asks c.in_ok-is_held.ensures.only
+returns-then-is_held-clause-asks g c = answered_once (state g.S.Store c.args.conn.now) (state g.S.Store c.has_zone.new.conn) c.has_zone.ensures.asks c.in_ok-is_held.ensures.same
 
 pub returns-else-is_held-clause-asks : goal.returns-else-is_held-clause-asks
-returns-else-is_held-clause-asks g c = answered_once (state g.S.Store c.args.conn.now) (state g.S.Store c.has_zone.new.conn) c.has_zone.ensures.asks c.in_ok-is_held.ensures.only
+returns-else-is_held-clause-asks g c = answered_once (state g.S.Store c.args.conn.now) (state g.S.Store c.has_zone.new.conn) c.has_zone.ensures.asks c.in_ok-is_held.ensures.same

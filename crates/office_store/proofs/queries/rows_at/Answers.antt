@@ -4,7 +4,7 @@ use Rattle.sqlite.specs.Held.{state}
 use Rattle.sqlite.specs.State.{HasCleanDisk}
 use Rattle.dns_names.specs.Keys.{key_of}
 use Rattle.store_sql.specs.Lookups.{records_at}
-use Rattle.store_sql.proofs.Commits.{asks_then}
+use Rattle.store_sql.proofs.Commits.{asks_then, shows_then}
 use Rattle.store_rows.specs.PartRows.{AreRowsAt}
 use Rattle.office_store.proofs.RowLemmas.{rows_first, rows_next, none_stand, some_stand}
 use Rattle.office_store.proofs.queries.rows_at.Goals as goal
@@ -13,7 +13,7 @@ pub loop-name-init : goal.loop-name-init
 loop-name-init g c =
     record {
       asks = c.records_at.ensures.asks;
-      only = λ clean. c.in_ok-rows.ensures.only clean;
+      same = λ clean. c.in_ok-rows.ensures.same clean;
       stands = λ clean all h. some_stand (records_at c.args.text.now (key_of c.args.origin.now) all.records) c.in_ok-rows.rows.items
           (subst (λ k. IsPermutation (records_at c.args.text.now k all.records) c.in_ok-rows.rows.items) c.key.ensures.key (c.in_ok-rows.ensures.answer clean all h)) (search (rules, c.is_empty.ensures, c.if-is_empty.false));
       found = λ clean all h. rows_first c.args.text.now (key_of c.args.origin.now) all.records c.in_ok-rows.rows.items
@@ -28,7 +28,7 @@ loop-name-preserved g c =
     let name = c.name-item.result in
     record {
       asks = asks_then (state g.S.Store c.args.conn.now) before after c.loop-name.invariant.asks asks;
-      only = λ clean rows h. c.loop-name.invariant.only (asks.honest clean) rows (c.in_ok-more.ensures.only clean rows h);
+      same = λ clean. shows_then (state g.S.Store c.args.conn.now) before after (c.loop-name.invariant.same (asks.honest clean)) (c.in_ok-more.ensures.same clean);
       stands = λ clean all h. c.loop-name.invariant.stands (asks.honest clean) all h;
       found = λ clean all h.
           let early : HasCleanDisk before = asks.honest clean in

@@ -3,10 +3,10 @@ use Rattle.office_store.proofs.QueryLemmas.{answered_once, refused_early, refuse
 use Rattle.office_store.proofs.queries.rows_below.Goals as goal
 
 pub returns-in-Some-clause-asks : goal.returns-in-Some-clause-asks
-returns-in-Some-clause-asks g c = answered_once (state g.S.Store c.args.conn.now) (state g.S.Store c.records_between.new.conn) c.records_between.ensures.asks c.in_ok-records_between-in-Some.ensures.only
+returns-in-Some-clause-asks g c = answered_once (state g.S.Store c.args.conn.now) (state g.S.Store c.records_between.new.conn) c.records_between.ensures.asks c.in_ok-records_between-in-Some.ensures.same
 
 pub returns-clause-asks : goal.returns-clause-asks
-returns-clause-asks g c = answered_once (state g.S.Store c.args.conn.now) (state g.S.Store c.records_of.new.conn) c.records_of.ensures.asks c.in_ok-records_of-in-None.ensures.only
+returns-clause-asks g c = answered_once (state g.S.Store c.args.conn.now) (state g.S.Store c.records_of.new.conn) c.records_of.ensures.asks c.in_ok-records_of-in-None.ensures.same
 
 pub returns-in_err-range-clause-asks : goal.returns-in_err-range-clause-asks
 returns-in_err-range-clause-asks g c = refused_early (state g.S.Store c.args.conn.now) c.from_residual.result c.from_residual.ensures.0

@@ -7,7 +7,7 @@ pub returns-clause-answer : goal.returns-clause-answer
 returns-clause-answer g c = λ clean s h. c.in_ok-sorted_origins.ensures.held (pos 2) h.rows s h.are (c.in_ok-names.ensures.answer clean h.rows h.held)
 
 pub returns-clause-asks : goal.returns-clause-asks
-returns-clause-asks g c = answered_once (state g.S.Store c.args.conn.now) (state g.S.Store c.all_zones.new.conn) c.all_zones.ensures.asks c.in_ok-names.ensures.only
+returns-clause-asks g c = answered_once (state g.S.Store c.args.conn.now) (state g.S.Store c.all_zones.new.conn) c.all_zones.ensures.asks c.in_ok-names.ensures.same
 
 pub returns-in_err-check_alone-clause-asks : goal.returns-in_err-check_alone-clause-asks
 returns-in_err-check_alone-clause-asks g c = refused_early (state g.S.Store c.args.conn.now) c.from_residual.result c.from_residual.ensures.0

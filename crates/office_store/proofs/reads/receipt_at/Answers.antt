@@ -28,4 +28,4 @@ pub returns-in_err-receipt-clause-asks : goal.returns-in_err-receipt-clause-asks
 returns-in_err-receipt-clause-asks g c = refused_once (state g.S.Store c.args.conn.now) (state g.S.Store c.receipts_of.new.conn) c.from_residual-in_err-receipt.result c.from_residual-in_err-receipt.ensures.0 c.receipts_of.ensures.asks
 
 pub returns-clause-asks : goal.returns-clause-asks
-returns-clause-asks g c = answered_once (state g.S.Store c.args.conn.now) (state g.S.Store c.receipts_of.new.conn) c.receipts_of.ensures.asks c.in_ok-rows.ensures.only
+returns-clause-asks g c = answered_once (state g.S.Store c.args.conn.now) (state g.S.Store c.receipts_of.new.conn) c.receipts_of.ensures.asks c.in_ok-rows.ensures.same

@@ -11,7 +11,7 @@ returns-clause-answer g c =
     c.in_ok-kept.ensures.held (pos 2) h.rows s h.are rows
 
 pub returns-clause-asks : goal.returns-clause-asks
-returns-clause-asks g c = answered_once (state g.S.Store c.args.conn.now) (state g.S.Store c.all_receipts.new.conn) c.all_receipts.ensures.asks c.in_ok-rows.ensures.only
+returns-clause-asks g c = answered_once (state g.S.Store c.args.conn.now) (state g.S.Store c.all_receipts.new.conn) c.all_receipts.ensures.asks c.in_ok-rows.ensures.same
 
 pub returns-in_err-check_alone-clause-asks : goal.returns-in_err-check_alone-clause-asks
 returns-in_err-check_alone-clause-asks g c = refused_early (state g.S.Store c.args.conn.now) c.from_residual.result c.from_residual.ensures.0

@@ -7,7 +7,7 @@ use Rattle.office_wire.proofs.responder.serve_whole.Goals as goal
 
 pub returns-in-Ok-Answered-clause-run : goal.returns-in-Ok-Answered-clause-run
 returns-in-Ok-Answered-clause-run g c = λ honest s held.
-    let served = c.serve_stream-served.ensures.run honest s (held, c.new-responder.ensures.fits s) in
+    let served = c.serve_stream-served.ensures.run honest s (held, c.new-responder.ensures.fits s.state) in
     let r = rw c.new-responder.ensures.rules at served in
     let inner : c.in-Ok-Answered.field-0 ≡ Answered = rw c.in-Ok-Answered.is at c.in-Ok-Answered.field-0-is in
     let answered : c.serve_stream-served.result.ended ≡ Ok Answered = c.in-Ok-Answered.is ∙ ap (λ (e : Ending). Ok e) inner in

@@ -9,8 +9,10 @@ use Rattle.office_wire.proofs.exchange.Service.respond.Goals as goal
 
 pub returns-in-Ok-clause-answers : goal.returns-in-Ok-clause-answers
 returns-in-Ok-clause-answers g c = λ honest s held h asked.
-    steps_answer (λ t. g.T.ZoneTable.holds c.step_with_bookmarks-reply.new.table t × AreBookmarks c.args.self.now.policy.now t c.step_with_bookmarks-reply.new.bookmarks) c.args.self.now.policy.now s _ _ (call_of h c.args.received.now.body.now) c.in-Ok.call c.step_with_bookmarks-reply.result
-    (sym (asked_call c.args.received.now.heading h c.args.received.now.body.now asked) ∙ c.in-Ok.ensures.exact) c.in-Ok.ensures.update (c.step_with_bookmarks-reply.ensures.step honest s held.0 held.1) c.step_with_bookmarks-reply.ensures.counts
+    steps_answer (g.T.ZoneTable.holds c.step_with_bookmarks-reply.new.table) (λ t. AreBookmarks c.args.self.now.policy.now t c.step_with_bookmarks-reply.new.bookmarks) (g.T.ZoneTable.leaves c.step_with_bookmarks-reply.new.table)
+    c.args.self.now.policy.now s _ _ (call_of h c.args.received.now.body.now) c.in-Ok.call c.step_with_bookmarks-reply.result
+    (sym (asked_call c.args.received.now.heading h c.args.received.now.body.now asked) ∙ c.in-Ok.ensures.exact) c.in-Ok.ensures.update (c.step_with_bookmarks-reply.ensures.step honest s.state held.0.0 held.1)
+    (c.step_with_bookmarks-reply.ensures.crash honest s.state s.other held.0.0 held.0.1) c.step_with_bookmarks-reply.ensures.counts
 
 pub returns-in-Err-clause-answers : goal.returns-in-Err-clause-answers
 returns-in-Err-clause-answers g c = λ honest s held h asked. (

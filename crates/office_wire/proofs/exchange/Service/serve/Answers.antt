@@ -2,7 +2,7 @@ use Rattle.std.proofs.Common.{◌∙◌, ◌+◌, ◌<◌, ℕ, List, refl, sym,
 use Rattle.office_wire.specs.Exchange.{Waits}
 use Rattle.office_wire.specs.Order.{moment}
 use Rattle.office_wire.specs.Serving.{mark}
-use Rattle.office_wire.proofs.ServingLemmas.{IsAnsweredRead, none_came, first_read, went_read, went_nowhere, ended, ended_part, went_closed, went_broken, went_on, sooner, halted, waits_nil, stayed}
+use Rattle.office_wire.proofs.ServingLemmas.{at_least_none, at_least_one, IsAnsweredRead, none_came, first_read, went_read, went_nowhere, ended, ended_part, went_closed, went_broken, went_on, sooner, halted, waits_nil, stayed}
 use Rattle.office_wire.proofs.exchange.Service.serve.Goals as goal
 
 pub reads-init : goal.reads-init
@@ -58,7 +58,7 @@ returns-in-Ok-finish-clause-run g c = λ honest s held.
     let mid = moment (g.S.Stream.flow c.reads.stream) in
     let read = moment (g.S.Stream.flow c.fill.new.stream) in
     let f = c.in-Ok.ensures.got in
-    let q = went_read policy first asked now c.reads.counter c.in-Ok.got _ c.reads.workspace.requests c.fill.new.self f.0 _ _ _ before mid read c.reads.invariant.waits f.1 f.2 f.3 (f.5, f.6) c.in-Ok.ensures.same p.2 in
+    let q = went_read policy first asked now c.reads.counter c.in-Ok.got _ c.reads.workspace.requests c.fill.new.self f.0 (g.S.Stream.flow c.args.stream.now).remaining (g.S.Stream.flow c.reads.stream).remaining (g.S.Stream.flow c.fill.new.stream).remaining before mid read c.reads.invariant.waits f.1 f.2 f.3 (f.5, f.6) c.in-Ok.ensures.same p.2 in
     let none = c.if-got-eq0.true in
     let old = none_came c.fill.new.self c.reads.workspace.requests f.0 c.in-Ok.got f.1 f.2 none in
     let waits = subst (λ (l : List ℕ). Waits l) (sym old) c.reads.invariant.waits in
@@ -84,7 +84,7 @@ returns-in-Err-finish-clause-run g c = λ honest s held.
     let mid = moment (g.S.Stream.flow c.reads.stream) in
     let read = moment (g.S.Stream.flow c.fill.new.stream) in
     let f = c.in-Ok.ensures.got in
-    let q = went_read policy first asked now c.reads.counter c.in-Ok.got _ c.reads.workspace.requests c.fill.new.self f.0 _ _ _ before mid read c.reads.invariant.waits f.1 f.2 f.3 (f.5, f.6) c.in-Ok.ensures.same p.2 in
+    let q = went_read policy first asked now c.reads.counter c.in-Ok.got _ c.reads.workspace.requests c.fill.new.self f.0 (g.S.Stream.flow c.args.stream.now).remaining (g.S.Stream.flow c.reads.stream).remaining (g.S.Stream.flow c.fill.new.stream).remaining before mid read c.reads.invariant.waits f.1 f.2 f.3 (f.5, f.6) c.in-Ok.ensures.same p.2 in
     let none = c.if-got-eq0.true in
     let old = none_came c.fill.new.self c.reads.workspace.requests f.0 c.in-Ok.got f.1 f.2 none in
     let waits = subst (λ (l : List ℕ). Waits l) (sym old) c.reads.invariant.waits in
@@ -110,7 +110,7 @@ returns-in-Err-answer_all-clause-run g c = λ honest s held.
     let mid = moment (g.S.Stream.flow c.reads.stream) in
     let read = moment (g.S.Stream.flow c.fill.new.stream) in
     let f = c.in-Ok.ensures.got in
-    let q = went_read policy first asked now c.reads.counter c.in-Ok.got _ c.reads.workspace.requests c.fill.new.self f.0 _ _ _ before mid read c.reads.invariant.waits f.1 f.2 f.3 (f.5, f.6) c.in-Ok.ensures.same p.2 in
+    let q = went_read policy first asked now c.reads.counter c.in-Ok.got _ c.reads.workspace.requests c.fill.new.self f.0 (g.S.Stream.flow c.args.stream.now).remaining (g.S.Stream.flow c.reads.stream).remaining (g.S.Stream.flow c.fill.new.stream).remaining before mid read c.reads.invariant.waits f.1 f.2 f.3 (f.5, f.6) c.in-Ok.ensures.same p.2 in
     let a = (rw c.reads.invariant.policy at c.in-Err-answer_all.ensures.served) honest p.0 p.1 in
     let last = mark a.0 (g.T.ZoneTable.failures c.answer_all.new.table) c.answer_all.new.self.servfails in
     let after = moment (g.S.Stream.flow c.answer_all.new.stream) in
@@ -135,7 +135,7 @@ returns-in-Ok-Closed-clause-run g c = λ honest s held.
     let mid = moment (g.S.Stream.flow c.reads.stream) in
     let read = moment (g.S.Stream.flow c.fill.new.stream) in
     let f = c.in-Ok.ensures.got in
-    let q = went_read policy first asked now c.reads.counter c.in-Ok.got _ c.reads.workspace.requests c.fill.new.self f.0 _ _ _ before mid read c.reads.invariant.waits f.1 f.2 f.3 (f.5, f.6) c.in-Ok.ensures.same p.2 in
+    let q = went_read policy first asked now c.reads.counter c.in-Ok.got _ c.reads.workspace.requests c.fill.new.self f.0 (g.S.Stream.flow c.args.stream.now).remaining (g.S.Stream.flow c.reads.stream).remaining (g.S.Stream.flow c.fill.new.stream).remaining before mid read c.reads.invariant.waits f.1 f.2 f.3 (f.5, f.6) c.in-Ok.ensures.same p.2 in
     let a = (rw (c.in-Ok-Closed.field-0-is, c.reads.invariant.policy) at c.in-Ok-Closed.ensures.served) honest p.0 p.1 in
     let last = mark a.0 (g.T.ZoneTable.failures c.answer_all.new.table) c.answer_all.new.self.servfails in
     let after = moment (g.S.Stream.flow c.answer_all.new.stream) in
@@ -160,12 +160,12 @@ returns-in-Ok-Overdue-clause-run g c = λ honest s held.
     let mid = moment (g.S.Stream.flow c.reads.stream) in
     let read = moment (g.S.Stream.flow c.fill.new.stream) in
     let f = c.in-Ok.ensures.got in
-    let q = went_read policy first asked now c.reads.counter c.in-Ok.got _ c.reads.workspace.requests c.fill.new.self f.0 _ _ _ before mid read c.reads.invariant.waits f.1 f.2 f.3 (f.5, f.6) c.in-Ok.ensures.same p.2 in
+    let q = went_read policy first asked now c.reads.counter c.in-Ok.got _ c.reads.workspace.requests c.fill.new.self f.0 (g.S.Stream.flow c.args.stream.now).remaining (g.S.Stream.flow c.reads.stream).remaining (g.S.Stream.flow c.fill.new.stream).remaining before mid read c.reads.invariant.waits f.1 f.2 f.3 (f.5, f.6) c.in-Ok.ensures.same p.2 in
     let a = (rw (c.in-Ok-Overdue.field-0-is, c.reads.invariant.policy) at c.in-Ok-Overdue.ensures.served) honest p.0 p.1 in
     let served = a.2 in
     let last = mark a.0 (g.T.ZoneTable.failures c.answer_all.new.table) c.answer_all.new.self.servfails in
     let after = moment (g.S.Stream.flow c.answer_all.new.stream) in
-    let here = went_on policy first asked now last (c.reads.counter + c.in-Ok.got) 0 _ _ c.fill.new.self c.answer_all.new.workspace.requests _ _ _ before read after (omega arith) c.in-Ok-Overdue.ensures.unread q served.0 in
+    let here = went_on policy first asked now last (c.reads.counter + c.in-Ok.got) 0 _ _ c.fill.new.self c.answer_all.new.workspace.requests (g.S.Stream.flow c.args.stream.now).remaining (g.S.Stream.flow c.fill.new.stream).remaining (g.S.Stream.flow c.answer_all.new.stream).remaining before read after (at_least_none (c.reads.counter + c.in-Ok.got)) c.in-Ok-Overdue.ensures.unread q served.0 in
     let some = sooner policy first asked q.0 _ _ q.8 served.1 in
     let r = halted policy first asked last _ _ _ _ _ before after some here in
     (r.0, a.0, a.1, r.1, record { done = r.2.0; in_turn = r.2.1 }, r.2.2)
@@ -194,13 +194,13 @@ reads-preserved g c =
           let mid = moment (g.S.Stream.flow c.reads.stream) in
           let read = moment (g.S.Stream.flow c.fill.new.stream) in
           let f = c.in-Ok.ensures.got in
-          let q = went_read policy first asked now c.reads.counter c.in-Ok.got _ c.reads.workspace.requests c.fill.new.self f.0 _ _ _ before mid read c.reads.invariant.waits f.1 f.2 f.3 (f.5, f.6) c.in-Ok.ensures.same p.2 in
+          let q = went_read policy first asked now c.reads.counter c.in-Ok.got _ c.reads.workspace.requests c.fill.new.self f.0 (g.S.Stream.flow c.args.stream.now).remaining (g.S.Stream.flow c.reads.stream).remaining (g.S.Stream.flow c.fill.new.stream).remaining before mid read c.reads.invariant.waits f.1 f.2 f.3 (f.5, f.6) c.in-Ok.ensures.same p.2 in
           let a = (rw (c.in-Ok-Open.field-0-is, c.reads.invariant.policy) at c.in-Ok-Open.ensures.served) honest p.0 p.1 in
           let last = mark a.0 (g.T.ZoneTable.failures c.answer_all.new.table) c.answer_all.new.self.servfails in
           let after = moment (g.S.Stream.flow c.answer_all.new.stream) in (
             a.0,
             a.1,
-            went_on policy first asked now last _ _ _ _ c.fill.new.self c.answer_all.new.workspace.requests _ _ _ before read after (let some = c.if-got-eq0.false in omega arith) c.in-Ok-Open.ensures.unread q
+            went_on policy first asked now last (c.reads.counter + c.in-Ok.got) (c.reads.counter + 1) _ _ c.fill.new.self c.answer_all.new.workspace.requests (g.S.Stream.flow c.args.stream.now).remaining (g.S.Stream.flow c.fill.new.stream).remaining (g.S.Stream.flow c.answer_all.new.stream).remaining before read after (at_least_one c.reads.counter c.in-Ok.got c.if-got-eq0.false) c.in-Ok-Open.ensures.unread q
                 a.2,
           );
       reads = c.in-Ok-Open.ensures.still ∙ c.in-Ok.ensures.failed ∙ c.reads.invariant.reads;

@@ -1,5 +1,5 @@
 use Rattle.std.proofs.Common.{◌≡◌, ◌<◌, length}
-use Rattle.office_model.specs.States.{State}
+use Rattle.office_model.specs.Tables.{Keeps, Kept}
 use Rattle.office_core.specs.Bookmarks.{AreBookmarks}
 use Rattle.office_wire.specs.Exchange.{Waits}
 use Rattle.office_wire.specs.Order.{moment}
@@ -12,7 +12,8 @@ invariant-reads g l = record {
   waits : Waits l.workspace.requests;
   room : length l.workspace.requests < 81920;
   honest : g.T.ZoneTable.is_honest l.table → g.T.ZoneTable.is_honest l.fn.table;
-  served : g.T.ZoneTable.is_honest l.table → (s : State) → g.T.ZoneTable.holds l.fn.table s × AreBookmarks l.fn.self.policy.now s l.fn.self.bookmarks → (t : State) × (g.T.ZoneTable.holds l.table t × AreBookmarks l.fn.self.policy.now t l.self.bookmarks)
+  served : g.T.ZoneTable.is_honest l.table → (s : Kept) → Keeps (g.T.ZoneTable.holds l.fn.table) (g.T.ZoneTable.leaves l.fn.table) s × AreBookmarks l.fn.self.policy.now s.state l.fn.self.bookmarks
+      → (t : Kept) × (Keeps (g.T.ZoneTable.holds l.table) (g.T.ZoneTable.leaves l.table) t × AreBookmarks l.fn.self.policy.now t.state l.self.bookmarks)
       × IsAnsweredRead l.fn.self.policy.now (mark s (g.T.ZoneTable.failures l.fn.table) l.fn.self.servfails) (g.D.Deadline.asked l.fn.deadline) l.counter (g.S.Stream.flow l.fn.stream).remaining (g.S.Stream.flow l.stream).remaining l.workspace.requests
       (moment (g.S.Stream.flow l.fn.stream)) (moment (g.S.Stream.flow l.stream))
       (g.D.Deadline.asked l.deadline) (mark t (g.T.ZoneTable.failures l.table) l.self.servfails);

@@ -10,7 +10,7 @@ use Rattle.wire_tcp.proofs.serving.Connections.serve.Goals as goal
 pub accepted-init : goal.accepted-init
 accepted-init g c = record {
   honest = λ honest. honest;
-  served = λ honest s held. ([], s, (held, c.new-responder.ensures.fits s), refl, refl, Appends-nil _, traced_none _ _);
+  served = λ honest s held. ([], s, (held, c.new-responder.ensures.fits s.state), refl, refl, Appends-nil _, traced_none _ _);
   written = ([], refl, Appends-nil _);
   fine = refl;
   rules = c.new-responder.ensures.rules;
@@ -29,7 +29,7 @@ accepted-preserved g c = record {
         p.0 ++ v ∷ [],
         a.1,
         a.2,
-        visits_more _ _ _ p.0 v _ _ _ p.3 (record { came = c.in-Ok.peer; went = c.serve_peer-peer.result.0; between = c.accept.new.self; given = c.in-Ok.ensures.given; back = c.end.ensures.given_back; served = a.5; patient = c.serve_peer-peer.ensures.patient; run = rw c.accepted.invariant.rules at a.3; holds = a.2.0; store = c.store_fault.ensures }),
+        visits_more _ _ _ p.0 v _ _ _ p.3 (record { came = c.in-Ok.peer; went = c.serve_peer-peer.result.0; between = c.accept.new.self; given = c.in-Ok.ensures.given; back = c.end.ensures.given_back; served = a.5; patient = c.serve_peer-peer.ensures.patient; run = rw c.accepted.invariant.rules at a.3; keeps = a.2.0; store = c.store_fault.ensures }),
         one_more p.0 v c.accepted.counter p.4,
         told_visit p.0 v _ _ _ p.5 c.in_ok-tell_ended.ensures.0,
         traced_more p.0 v _ _ _ _ _ _ p.6 traced,
@@ -51,11 +51,11 @@ returns-in_err-tell_ended-clause-served g c = λ honest s held.
     let v : Visit = record { turns = a.0; ended = c.serve_peer-peer.result.1.ended; store = c.store_fault.result } in
     let traced = traced_once v c.serve_peer-peer.result.1.servfails _ _ _ _ _ a.4 c.tell_servfails.ensures in
     let visits = p.0 ++ v ∷ [] in
-    let all = visits_more _ _ _ p.0 v _ _ _ p.3 (record { came = c.in-Ok.peer; went = c.serve_peer-peer.result.0; between = c.accept.new.self; given = c.in-Ok.ensures.given; back = c.end.ensures.given_back; served = a.5; patient = c.serve_peer-peer.ensures.patient; run = rw c.accepted.invariant.rules at a.3; holds = a.2.0; store = c.store_fault.ensures }) in
+    let all = visits_more _ _ _ p.0 v _ _ _ p.3 (record { came = c.in-Ok.peer; went = c.serve_peer-peer.result.0; between = c.accept.new.self; given = c.in-Ok.ensures.given; back = c.end.ensures.given_back; served = a.5; patient = c.serve_peer-peer.ensures.patient; run = rw c.accepted.invariant.rules at a.3; keeps = a.2.0; store = c.store_fault.ensures }) in
     let more : c.accepted.counter < c.args.self.now.most = let in_range = c.accepted-test.true in omega arith in
     let e = err_from_is_err_and c.from_residual.result c.from_residual.ensures.1 in
     let lines = told_in_part _ _ _ (ends p.0) (g.H.Listener.cut c.args.listener.now) c.args.self.now.most c.accepted.counter (fault_of v.ended) _ _ _ (ends_length p.0 ∙ p.4) more p.5 c.accepted.invariant.fine c.in_err-tell_ended.ensures in
-    (visits, a.1, a.2.0, are_served _ _ _ visits _ _ (g.met.T.ZoneTable.zones c.args.table.now s held) (g.met.T.ZoneTable.receipts c.args.table.now s held) all, rw (e.1, e.2, ends_more p.0 v) lines, traced_more p.0 v _ _ _ _ _ _ p.6 traced)
+    (visits, a.1, a.2.0, are_served _ _ _ visits _ _ (g.met.T.ZoneTable.zones c.args.table.now s.state held.0) (g.met.T.ZoneTable.receipts c.args.table.now s.state held.0) all, rw (e.1, e.2, ends_more p.0 v) lines, traced_more p.0 v _ _ _ _ _ _ p.6 traced)
 
 pub returns-in_err-tell_ended-clause-written : goal.returns-in_err-tell_ended-clause-written
 returns-in_err-tell_ended-clause-written g c =
@@ -94,7 +94,7 @@ returns-in_default-clause-served g c = λ honest s held.
       p.0,
       p.1,
       p.2.0,
-      are_served _ _ _ p.0 _ _ (g.met.T.ZoneTable.zones c.args.table.now s held) (g.met.T.ZoneTable.receipts c.args.table.now s held) visits,
+      are_served _ _ _ p.0 _ _ (g.met.T.ZoneTable.zones c.args.table.now s.state held.0) (g.met.T.ZoneTable.receipts c.args.table.now s.state held.0) visits,
       told_last _ _ _ (ends p.0) c.args.self.now.most c.accepted.counter (Err c.write_refusal.result) _ _ _ none (ends_length p.0 ∙ p.4) more p.5 c.accepted.invariant.fine c.write_refusal.ensures,
       p.6,
     )
@@ -111,4 +111,4 @@ pub returns-clause-served : goal.returns-clause-served
 returns-clause-served g c = λ honest s held.
     let p = c.accepted.invariant.served honest s held in
     let all : length (ends p.0) ≡ c.args.self.now.most = let past = c.accepted-test.false in let ended = c.accepted.auto.counter-end in let count = p.4 in let same = ends_length p.0 in omega arith in
-    (p.0, p.1, p.2.0, are_served _ _ _ p.0 _ _ (g.met.T.ZoneTable.zones c.args.table.now s held) (g.met.T.ZoneTable.receipts c.args.table.now s held) p.3, (all, p.5, c.accepted.invariant.fine), p.6)
+    (p.0, p.1, p.2.0, are_served _ _ _ p.0 _ _ (g.met.T.ZoneTable.zones c.args.table.now s.state held.0) (g.met.T.ZoneTable.receipts c.args.table.now s.state held.0) p.3, (all, p.5, c.accepted.invariant.fine), p.6)

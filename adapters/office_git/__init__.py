@@ -1,0 +1,1 @@
+"""Zones of an office in a git repository: what adapters/office-git is made of."""
