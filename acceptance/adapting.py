@@ -19,7 +19,7 @@ PAGE = "adapters.md"
 POLICY = "/etc/zoneoffice/policy.toml"
 STORE = "/var/lib/zoneoffice/store"
 PACKAGES = {"curl": "curl", "htpasswd": "apache2-utils", "ip": "iproute2", "kdig": "knot-dnsutils", "knotd": "knot",
-            "kzonecheck": "knot-dnssecutils", "nginx": "nginx", "openssl": "openssl", "systemd_socket_activate": "systemd"}
+            "kzonecheck": "knot-dnssecutils", "nft": "nftables", "nginx": "nginx", "openssl": "openssl", "systemd_socket_activate": "systemd"}
 
 
 def password(user):
