@@ -1,5 +1,5 @@
 -- A caller of a kind: one that is named, or one that no rule names.
-use Rattle.std.proofs.Common.{◌≡◌, ℕ, zero, suc, ◌/◌, ◌%◌, ◌<◌, ◌≤◌, ◌⊎◌, inl, inr, Bool, true, false, ◌&&◌, cond, List, length, Some, None, refl, sym, ap, ◌∙◌, subst, ⊎_elim, arith}
+use Rattle.std.proofs.Common.{◌≡◌, ℕ, zero, suc, ◌/◌, ◌%◌, ◌<◌, ◌≤◌, ◌⊎◌, inl, inr, Bool, true, false, ◌&&◌, cond, List, [], ◌∷◌, ◌+◌, ◌*◌, length, Some, None, refl, sym, ap, ◌∙◌, subst, ⊎_elim, arith}
 use Rattle.std.specs.Prelude.{bytes_eq}
 use Rattle.std.specs.List.{Contains, list_any}
 use Rattle.std.proofs.lemmas.Bool.{cases_Bool, cases_lt, false≢true, and_from}
@@ -11,18 +11,34 @@ use Rattle.grant_policy.specs.declared.callers.Callers.TheVariants.{Every, One}
 use Rattle.grant_policy.specs.declared.rule.Rule.{Rule}
 use Rattle.grant_policy.specs.Identifiers.{IsIdentifier, is_identifier_octet}
 use Rattle.grant_policy.specs.Rules.{is_of}
-use Rattle.policy_tools.specs.FreeNames.{letter_of, pair_of}
+use Rattle.policy_tools.specs.FreeNames.{letter_of}
 use Rattle.policy_tools.specs.Taking.{AreCallers, shared_of, is_every, includes}
-use Rattle.policy_tools.proofs.FreeNameLemmas.{quotient, remainder, at_least, HasNumber, number_of, number_of-pair_of}
+use Rattle.policy_tools.proofs.FreeNameLemmas.{at_least, HasNumber, rank, rank-letter_of}
 
 -- ---- an identifier that no rule names
 
 letter_octet : (n : ℕ) → n < 36 → is_identifier_octet (letter_of n) ≡ true
 letter_octet n h = grind (arith, nat_tests)
 
-pair_identifier : (n : ℕ) → n < 1296 → IsIdentifier (pair_of n)
-pair_identifier n h = record {
-  octets = and_from (is_identifier_octet (letter_of (n / 36))) (is_identifier_octet (letter_of (n % 36)) && true) (letter_octet (n / 36) (quotient n h)) (and_from (is_identifier_octet (letter_of (n % 36))) true (letter_octet (n % 36) (remainder n)) refl);
+-- the identifier of a number: three letters and digits
+abbrev triple_of : ℕ → List ℕ
+triple_of n = letter_of (n / 36 / 36) ∷ letter_of (n / 36 % 36) ∷ letter_of (n % 36) ∷ []
+
+abbrev number_of : List ℕ → ℕ
+number_of (a ∷ b ∷ c ∷ rest) = rank a * 1296 + rank b * 36 + rank c
+number_of _ = 0
+
+number_of-triple_of : (n : ℕ) → n < 46656 → number_of (triple_of n) ≡ n
+number_of-triple_of n h = omega (arith, rank-letter_of (n / 36 / 36) (omega arith), rank-letter_of (n / 36 % 36) (omega arith), rank-letter_of (n % 36) (omega arith))
+
+three_octets : (a b c : ℕ) → is_identifier_octet a ≡ true → is_identifier_octet b ≡ true → is_identifier_octet c ≡ true → (is_identifier_octet a && (is_identifier_octet b && (is_identifier_octet c && true))) ≡ true
+three_octets a b c ia ib ic =
+    and_from (is_identifier_octet a) (is_identifier_octet b && (is_identifier_octet c && true)) ia
+    (and_from (is_identifier_octet b) (is_identifier_octet c && true) ib (and_from (is_identifier_octet c) true ic refl))
+
+triple_identifier : (n : ℕ) → n < 46656 → IsIdentifier (triple_of n)
+triple_identifier n h = record {
+  octets = three_octets (letter_of (n / 36 / 36)) (letter_of (n / 36 % 36)) (letter_of (n % 36)) (letter_octet (n / 36 / 36) (omega arith)) (letter_octet (n / 36 % 36) (omega arith)) (letter_octet (n % 36) (omega arith));
   not_empty = omega arith;
   short = omega arith;
 }
@@ -36,9 +52,9 @@ abbrev number_by : Callers → ℕ
 number_by Every = 0
 number_by (One identifier) = number_of identifier
 
-named_number : (callers : Callers) (n : ℕ) → n < 1296 → names (pair_of n) callers ≡ true → number_by callers ≡ n
+named_number : (callers : Callers) (n : ℕ) → n < 46656 → names (triple_of n) callers ≡ true → number_by callers ≡ n
 named_number Every n h e = absurd (false≢true e)
-named_number (One identifier) n h e = ap number_of ((bytes_eq-Decides identifier (pair_of n)).0 e) ∙ number_of-pair_of n h
+named_number (One identifier) n h e = ap number_of ((bytes_eq-Decides identifier (triple_of n)).0 e) ∙ number_of-triple_of n h
 
 search_to : (p : ℕ → Bool) (n : ℕ) → ((k : ℕ) × (k < n) × (p k ≡ false)) ⊎ ((k : ℕ) → k < n → p k ≡ true)
 search_to p zero = inr (λ k lt. absurd (omega arith))
@@ -53,19 +69,19 @@ search_to p (suc n) =
 
 -- whether one of these speaks of the identifier of this number alone
 abbrev is_named : {X : Type 0} → (X → Callers) → List X → ℕ → Bool
-is_named of xs n = list_any (λ x. names (pair_of n) (of x)) xs
+is_named of xs n = list_any (λ x. names (triple_of n) (of x)) xs
 
-has_number : {X : Type 0} (of : X → Callers) (xs : List X) (n : ℕ) → n < 1296 → is_named of xs n ≡ true → HasNumber (λ (x : X). number_by (of x)) xs n
+has_number : {X : Type 0} (of : X → Callers) (xs : List X) (n : ℕ) → n < 46656 → is_named of xs n ≡ true → HasNumber (λ (x : X). number_by (of x)) xs n
 has_number {X} of xs n h e =
-    let a = Any-from_list_any (λ (x : X). names (pair_of n) (of x)) xs e in
+    let a = Any-from_list_any (λ (x : X). names (triple_of n) (of x)) xs e in
     (a.1, (a.0, a.2, a.3), named_number (of a.1) n h a.4)
 
-unnamed : {X : Type 0} (of : X → Callers) (xs : List X) → length xs ≤ 1025 → (n : ℕ) × (n < 1026) × (is_named of xs n ≡ false)
+unnamed : {X : Type 0} (of : X → Callers) (xs : List X) → length xs ≤ 2049 → (n : ℕ) × (n < 2050) × (is_named of xs n ≡ false)
 unnamed {X} of xs few =
     ⊎_elim
-    (λ (found : (n : ℕ) × (n < 1026) × (is_named of xs n ≡ false)). found)
-    (λ (all : (n : ℕ) → n < 1026 → is_named of xs n ≡ true). absurd (omega (arith, at_least (λ (x : X). number_by (of x)) xs 1026 (λ n lt. has_number of xs n (omega arith) (all n lt)))))
-    (search_to (is_named of xs) 1026)
+    (λ (found : (n : ℕ) × (n < 2050) × (is_named of xs n ≡ false)). found)
+    (λ (all : (n : ℕ) → n < 2050 → is_named of xs n ≡ true). absurd (omega (arith, at_least (λ (x : X). number_by (of x)) xs 2050 (λ n lt. has_number of xs n (omega arith) (all n lt)))))
+    (search_to (is_named of xs) 2050)
 
 -- ---- a caller of a kind
 
@@ -89,18 +105,18 @@ pub represented : (rules : List Rule) (callers : Callers) → length rules ≤ 1
 represented rules (One identifier) few are = (identifier, record { identifier = are; alike = λ rule in'. refl })
 represented rules Every few are =
     let free = unnamed (λ (rule : Rule). rule.callers) rules (omega arith) in (
-      pair_of free.0,
+      triple_of free.0,
       record {
-        identifier = pair_identifier free.0 (omega (arith, free.1));
-        alike = λ rule in'. not_named rule.callers (pair_of free.0) (passes_not (λ (r : Rule). names (pair_of free.0) r.callers) rules rule free.2 in');
+        identifier = triple_identifier free.0 (omega (arith, free.1));
+        alike = λ rule in'. not_named rule.callers (triple_of free.0) (passes_not (λ (r : Rule). names (triple_of free.0) r.callers) rules rule free.2 in');
       },
     )
 
 -- an identifier of which none of these speaks alone
-pub free_identifier : (all : List Callers) → length all ≤ 1025 → (identifier : List ℕ) × IsIdentifier identifier × ((callers : Callers) → Contains all callers → names identifier callers ≡ false)
+pub free_identifier : (all : List Callers) → length all ≤ 2049 → (identifier : List ℕ) × IsIdentifier identifier × ((callers : Callers) → Contains all callers → names identifier callers ≡ false)
 free_identifier all few =
     let free = unnamed (λ (callers : Callers). callers) all few in
-    (pair_of free.0, pair_identifier free.0 (omega (arith, free.1)), λ callers in'. passes_not (names (pair_of free.0)) all callers free.2 in')
+    (triple_of free.0, triple_identifier free.0 (omega (arith, free.1)), λ callers in'. passes_not (names (triple_of free.0)) all callers free.2 in')
 
 -- ---- callers of whom two rules speak
 

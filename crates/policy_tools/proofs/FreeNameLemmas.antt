@@ -65,39 +65,54 @@ pub record IsLetter (x : ℕ) : Type 0 where
   pub other : x ≢ 92
   pub folded : to_ascii_lowercase x ≡ x
 
+abbrev beyond : ℕ → ℕ
+beyond n = cond (ltb n 43) (22 + n) (50 + n)
+
 letter_low : (n : ℕ) → n < 26 → letter_of n ≡ 97 + n
-letter_low n h = ap (λ (b : Bool). cond b (97 + n) (22 + n)) (lt-ltb n 26 h)
+letter_low n h = ap (λ (b : Bool). cond b (97 + n) (beyond n)) (lt-ltb n 26 h)
 
-letter_high : (n : ℕ) → 26 ≤ n → letter_of n ≡ 22 + n
-letter_high n h = ap (λ (b : Bool). cond b (97 + n) (22 + n)) (le-ltb n 26 h)
+letter_mid : (n : ℕ) → 26 ≤ n → n < 43 → letter_of n ≡ 22 + n
+letter_mid n h k = ap (λ (b : Bool). cond b (97 + n) (beyond n)) (le-ltb n 26 h) ∙ ap (λ (b : Bool). cond b (22 + n) (50 + n)) (lt-ltb n 43 k)
 
-letter_at : (x : ℕ) → (97 ≤ x) × (x < 123) → IsLetter x
+letter_high : (n : ℕ) → 43 ≤ n → letter_of n ≡ 50 + n
+letter_high n h = ap (λ (b : Bool). cond b (97 + n) (beyond n)) (le-ltb n 26 (omega arith)) ∙ ap (λ (b : Bool). cond b (22 + n) (50 + n)) (le-ltb n 43 h)
+
+letter_at : (x : ℕ) → (93 ≤ x) × (x < 123) → IsLetter x
 letter_at x h = record { above = omega arith; below = h.1; other = λ e. omega arith; folded = (lowercase_is x).2 (omega arith) }
 
-digit_at : (x : ℕ) → (48 ≤ x) × (x < 58) → IsLetter x
+digit_at : (x : ℕ) → (48 ≤ x) × (x < 65) → IsLetter x
 digit_at x h = record { above = h.0; below = omega arith; other = λ e. omega arith; folded = (lowercase_is x).1 (omega arith) }
 
-pub is_letter : (n : ℕ) → n < 36 → IsLetter (letter_of n)
-is_letter n h =
+-- what is true of each letter, in three parts
+by_thirds : (P : ℕ → Type 0) (n : ℕ) → (n < 26 → P (97 + n)) → (26 ≤ n → n < 43 → P (22 + n)) → (43 ≤ n → P (50 + n)) → P (letter_of n)
+by_thirds P n low mid high =
     ⊎_elim
-    (λ (low : n < 26). subst IsLetter (sym (letter_low n low)) (letter_at (97 + n) (omega arith, omega arith)))
-    (λ (high : 26 ≤ n). subst IsLetter (sym (letter_high n high)) (digit_at (22 + n) (omega arith, omega arith)))
+    (λ (h : n < 26). subst P (sym (letter_low n h)) (low h))
+    (λ (h : 26 ≤ n). ⊎_elim
+    (λ (k : n < 43). subst P (sym (letter_mid n h k)) (mid h k))
+    (λ (k : 43 ≤ n). subst P (sym (letter_high n k)) (high k))
+    (cases_lt n 43))
     (cases_lt n 26)
 
-pub quotient : (n : ℕ) → n < 1296 → n / 36 < 36
+pub is_letter : (n : ℕ) → n < 47 → IsLetter (letter_of n)
+is_letter n h =
+    by_thirds IsLetter n (λ low. letter_at (97 + n) (omega arith, omega arith)) (λ from to. digit_at (22 + n) (omega arith, omega arith))
+    (λ high. letter_at (50 + n) (omega arith, omega arith))
+
+pub quotient : (n : ℕ) → n < 2209 → n / 47 < 47
 quotient n h = omega arith
 
-pub remainder : (n : ℕ) → n % 36 < 36
+pub remainder : (n : ℕ) → n % 47 < 47
 remainder n = omega arith
 
 folded_letter : (x : ℕ) → IsLetter x → IsFolded x
 folded_letter x l = record { below = omega (arith, l.below); folded = l.folded }
 
-pub pair_name : (top : List (List ℕ)) (n : ℕ) → IsName top → wire_len top ≤ 252 → n < 1296 → IsName (pair_of n ∷ top)
+pub pair_name : (top : List (List ℕ)) (n : ℕ) → IsName top → wire_len top ≤ 252 → n < 2209 → IsName (pair_of n ∷ top)
 pair_name top n is room h = record {
   labels = (
     record {
-      octets = (folded_letter (letter_of (n / 36)) (is_letter (n / 36) (quotient n h)), (folded_letter (letter_of (n % 36)) (is_letter (n % 36) (remainder n)), tt));
+      octets = (folded_letter (letter_of (n / 47)) (is_letter (n / 47) (quotient n h)), (folded_letter (letter_of (n % 47)) (is_letter (n % 47) (remainder n)), tt));
       not_empty = omega arith;
       short = omega arith;
     },
@@ -109,12 +124,12 @@ pair_name top n is room h = record {
 spells_letter : (x : ℕ) → IsLetter x → SpellsFolded x (x ∷ [])
 spells_letter x l = (x, omega (arith, l.below), l.folded, inl (λ e. omega (arith, l.above), l.other, refl))
 
-pub pair_spells : (top : List (List ℕ)) (n : ℕ) → n < 1296 → SpellsRelative top (pair_of n ∷ top) (pair_of n)
+pub pair_spells : (top : List (List ℕ)) (n : ℕ) → n < 2209 → SpellsRelative top (pair_of n ∷ top) (pair_of n)
 pair_spells top n h =
-    let a = letter_of (n / 36) in
-    let b = letter_of (n % 36) in
-    let first = spells_letter a (is_letter (n / 36) (quotient n h)) in
-    let second = spells_letter b (is_letter (n % 36) (remainder n)) in
+    let a = letter_of (n / 47) in
+    let b = letter_of (n % 47) in
+    let first = spells_letter a (is_letter (n / 47) (quotient n h)) in
+    let second = spells_letter b (is_letter (n % 47) (remainder n)) in
     inr (inr (pair_of n ∷ [], λ e. two_not_one a b e, λ e. cc, refl, (pair_of n, [], refl, (a ∷ [], b ∷ [], refl, first, (b ∷ [], [], refl, second, refl)), refl)))
   where
     two_not_one : (a b : ℕ) → a ∷ b ∷ [] ≡ 64 ∷ [] → ⊥
@@ -177,23 +192,25 @@ at_least {X} f xs n has = omega (arith, count_to f xs n has, count_by-le-length 
 
 -- ---- the number of a pair
 
-abbrev rank : ℕ → ℕ
-rank x = cond (ltb x 97) (x - 22) (x - 97)
+abbrev pub rank : ℕ → ℕ
+rank x = cond (ltb x 65) (x - 22) (cond (ltb x 97) (x - 50) (x - 97))
 
-rank-letter_of : (n : ℕ) → n < 36 → rank (letter_of n) ≡ n
+pub rank-letter_of : (n : ℕ) → n < 47 → rank (letter_of n) ≡ n
 rank-letter_of n h =
-    ⊎_elim
-    (λ (low : n < 26). ap rank (letter_low n low) ∙ ap (λ (b : Bool). cond b (97 + n - 22) (97 + n - 97)) (le-ltb (97 + n) 97 (omega arith)) ∙ omega arith)
-    (λ (high : 26 ≤ n). ap rank (letter_high n high) ∙ ap (λ (b : Bool). cond b (22 + n - 22) (22 + n - 97)) (lt-ltb (22 + n) 97 (omega arith)) ∙ omega arith)
-    (cases_lt n 26)
+    by_thirds (λ (x : ℕ). rank x ≡ n) n
+    (λ low. ap (λ (b : Bool). cond b (97 + n - 22) (cond (ltb (97 + n) 97) (97 + n - 50) (97 + n - 97))) (le-ltb (97 + n) 65 (omega arith))
+    ∙ ap (λ (b : Bool). cond b (97 + n - 50) (97 + n - 97)) (le-ltb (97 + n) 97 (omega arith)) ∙ omega arith)
+    (λ from to. ap (λ (b : Bool). cond b (22 + n - 22) (cond (ltb (22 + n) 97) (22 + n - 50) (22 + n - 97))) (lt-ltb (22 + n) 65 (omega arith)) ∙ omega arith)
+    (λ high. ap (λ (b : Bool). cond b (50 + n - 22) (cond (ltb (50 + n) 97) (50 + n - 50) (50 + n - 97))) (le-ltb (50 + n) 65 (omega arith))
+    ∙ ap (λ (b : Bool). cond b (50 + n - 50) (50 + n - 97)) (lt-ltb (50 + n) 97 (omega arith)) ∙ omega arith)
 
 abbrev pub number_of : List ℕ → ℕ
 number_of [] = 0
 number_of (a ∷ []) = 0
-number_of (a ∷ b ∷ rest) = rank a * 36 + rank b
+number_of (a ∷ b ∷ rest) = rank a * 47 + rank b
 
-pub number_of-pair_of : (n : ℕ) → n < 1296 → number_of (pair_of n) ≡ n
-number_of-pair_of n h = omega (arith, rank-letter_of (n / 36) (quotient n h), rank-letter_of (n % 36) (remainder n))
+pub number_of-pair_of : (n : ℕ) → n < 2209 → number_of (pair_of n) ≡ n
+number_of-pair_of n h = omega (arith, rank-letter_of (n / 47) (quotient n h), rank-letter_of (n % 47) (remainder n))
 
 abbrev pub first_number : List (List ℕ) → ℕ
 first_number [] = 0

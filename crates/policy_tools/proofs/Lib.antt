@@ -9,3 +9,5 @@ pub mod EntryRightLemmas
 pub mod IsolatedLemmas
 mod NameRightLemmas
 mod NameGroupLemmas
+mod GroupRowLemmas
+mod ChangeLemmas

@@ -1,17 +1,15 @@
 -- Who may do what in each group of names.
-use Rattle.std.proofs.Common.{◌≡◌, ◌≢◌, ◌↔◌, ◌⊎◌, inl, inr, ℕ, zero, suc, ◌+◌, ◌<◌, ◌≤◌, Bool, true, false, cond, List, [], ◌∷◌, ◌++◌, length, map, get_or, take, None, Result, Ok, Err, OnOk, refl, sym, ap, ◌∙◌, subst, ⊎_elim, arith, length-append, length-take, append_assoc}
+use Rattle.std.proofs.Common.{◌≡◌, ◌≢◌, ◌↔◌, ◌⊎◌, inl, inr, ℕ, zero, suc, ◌+◌, ◌<◌, ◌≤◌, Bool, true, false, cond, List, [], ◌∷◌, ◌++◌, length, map, get_or, take, None, Result, Ok, Err, OnOk, refl, sym, ap, ◌∙◌, subst, ⊎_elim, arith, length-append, append_assoc}
 use Rattle.std.specs.List.{All, AllPairs, Contains, dedup, list_any}
 use Rattle.std.specs.List.Sorted.{IsPermutation, IsSorted, IsStrictlySortedBy}
 use Rattle.std.specs.List.Retain.{IsFiltered, DiffersFromLast}
 use Rattle.std.specs.declared.cmp.Ordering.TheVariants.{Less}
 use Rattle.std.proofs.lemmas.Bool.{false≢true, false_from_ne_true, true_from_ne_false, both_ways}
-use Rattle.std.proofs.lemmas.List.{append-nil, length-map, map_push, take_more, take_all, get_or-take, get_or_default}
-use Rattle.std.proofs.lemmas.List.Concat.{flat_map-append}
-use Rattle.std.proofs.lemmas.List.Elements.{All-nil, All-push, All-weaker, All-contains, All-filter, All-contains_itself, Contains-push, Contains-push_cases, Contains-append_left}
+use Rattle.std.proofs.lemmas.List.{append-nil, length-map, map_push, take_more}
+use Rattle.std.proofs.lemmas.List.Elements.{All-contains, All-filter, All-contains_itself}
 use Rattle.std.proofs.lemmas.List.Filters.{dedup_is, All-dedup}
 use Rattle.std.proofs.lemmas.List.Folds.{Any-from_list_any}
 use Rattle.std.proofs.lemmas.List.Kept.{AllPairs-cons, Contains-dedup, Contains-from_dedup, IsStrictlySortedBy-dedup}
-use Rattle.std.proofs.lemmas.List.Quantifiers.{all_pairs_push}
 use Rattle.std.proofs.lemmas.List.Sorted.{All-permutation, Contains-permutation, IsPermutation-sym}
 use Rattle.std.proofs.lemmas.Map.Keys.{sorted_tail}
 use Rattle.std.proofs.lemmas.Map.Views.{All-after_first}
@@ -41,7 +39,7 @@ use Rattle.grant_policy.specs.Isolated.{IsGranted}
 use Rattle.policy_tools.specs.Representatives.{AreAlike}
 use Rattle.policy_tools.specs.FreeNames.{IsFreeBelow, IsFreeChild}
 use Rattle.policy_tools.specs.NameRights.{rules_at, IsNamedIn, IsNamedBefore, listed_of, AreRightsAt, HasNoRights, IsListed}
-use Rattle.policy_tools.specs.NameGroups.{IsTop, top_of, IsInGroup, IsInOneGroup, IsBefore, HasGrant, HasNoGrant, IsRowOf, HasRow, AreGroupRights, AreTops, groups_of, AddsGroup, PushesRow, AreRowsOf}
+use Rattle.policy_tools.specs.NameGroups.{IsTop, top_of, IsInGroup, IsInOneGroup, HasGrant, HasNoGrant, AreTops, AddsGroup, PushesRow}
 use Rattle.grant_policy.proofs.ScopeLemmas.{same_name-Decides, within_self, within_cons}
 use Rattle.policy_tools.proofs.CallerLemmas.{names, free_identifier}
 use Rattle.grant_policy.proofs.DecisionLaws.{some_action}
@@ -57,15 +55,15 @@ within_both a b ([], e) w = e
 within_both a b (label ∷ front, e) w = absurd (omega (arith, within_longer b a w, ap (length {A = List ℕ}) e, length-append (label ∷ front) b))
 
 -- the nearest top at or above a name
-record IsNear (rules : List Rule) (name top : List (List ℕ)) : Type 0 where
-  at : IsTop rules top
-  within : IsWithin name top
-  near : (other : List (List ℕ)) → IsTop rules other → IsWithin name other → IsWithin top other
+pub record IsNear (rules : List Rule) (name top : List (List ℕ)) : Type 0 where
+  pub at : IsTop rules top
+  pub within : IsWithin name top
+  pub near : (other : List (List ℕ)) → IsTop rules other → IsWithin name other → IsWithin top other
 
 near_one : (rules : List Rule) (name a b : List (List ℕ)) → IsNear rules name a → IsNear rules name b → a ≡ b
 near_one rules name a b na nb = within_both a b (na.near b nb.at nb.within) (nb.near a na.at na.within)
 
-group_near : (rules : List Rule) (name : List (List ℕ)) (group : NameGroup) → IsInGroup rules name group → IsNear rules name (top_of group)
+pub group_near : (rules : List Rule) (name : List (List ℕ)) (group : NameGroup) → IsInGroup rules name group → IsNear rules name (top_of group)
 group_near rules name (Exactly top) (at, is) = record {
   at = at;
   within = subst (λ (n : List (List ℕ)). IsWithin n top) (sym is) (within_self top);
@@ -165,26 +163,32 @@ none_granted rules name rights are none caller t a g =
     let others : listed_of rights.named.items rights.others caller ≡ rights.others = ap (λ (l : List CallerRights). listed_of l rights.others caller) none.named in
     both_ways (has_point rights.others t a) (none.others t a) (sym (ap (λ (n : ℕ). has_point n t a) others) ∙ has)
 
-some_pair : (n : ℕ) → (((t : RecordType) (a : Action) → has_point n t a ≡ false) → ⊥) → Meet n n
-some_pair n some = by (list_any (λ (t : RecordType). list_any (has_point n t) all_actions) kept_types) refl
+-- some pair is in a set, or none is
+pub pair_or_none : (n : ℕ) → Meet n n ⊎ ((t : RecordType) (a : Action) → has_point n t a ≡ false)
+pair_or_none n = by (list_any (λ (t : RecordType). list_any (has_point n t) all_actions) kept_types) refl
   where
-    by : (b : Bool) → list_any (λ (t : RecordType). list_any (has_point n t) all_actions) kept_types ≡ b → Meet n n
+    by : (b : Bool) → list_any (λ (t : RecordType). list_any (has_point n t) all_actions) kept_types ≡ b → Meet n n ⊎ ((t : RecordType) (a : Action) → has_point n t a ≡ false)
     by true e =
         let t = Any-from_list_any (λ (t : RecordType). list_any (has_point n t) all_actions) kept_types e in
         let a = Any-from_list_any (has_point n t.1) all_actions t.4 in
-        record { record_type = t.1; action = a.1; in_one = a.4; in_other = a.4 }
+        inl (record { record_type = t.1; action = a.1; in_one = a.4; in_other = a.4 })
     by false e =
-        absurd (some (λ t a. false_from_ne_true (has_point n t a) (λ has. false≢true (sym e ∙ some_type (λ (t : RecordType). list_any (has_point n t) all_actions) t (some_action (has_point n t) a has)))))
+        inr (λ t a. false_from_ne_true (has_point n t a) (λ has. false≢true (sym e ∙ some_type (λ (t : RecordType). list_any (has_point n t) all_actions) t (some_action (has_point n t) a has))))
 
-module _ (rules : List Rule) (few : length rules ≤ 1024) (callers : (rule : Rule) → Contains rules rule → AreCallers rule.callers) (name : List (List ℕ)) (rights : NameRights) (are : AreRightsAt rules name rights) where
-  rule_of_caller : (caller : List ℕ) → IsNamedIn (rules_at rules name) caller → (rule : Rule) × Contains rules rule × (rule.callers ≡ One caller)
+some_pair : (n : ℕ) → (((t : RecordType) (a : Action) → has_point n t a ≡ false) → ⊥) → Meet n n
+some_pair n some = ⊎_elim (λ (pair : Meet n n). pair) (λ (none : (t : RecordType) (a : Action) → has_point n t a ≡ false). absurd (some none)) (pair_or_none n)
+
+-- what rules name is an identifier
+module _ (rules : List Rule) (callers : (rule : Rule) → Contains rules rule → AreCallers rule.callers) (name : List (List ℕ)) where
+  pub rule_of_caller : (caller : List ℕ) → IsNamedIn (rules_at rules name) caller → (rule : Rule) × Contains rules rule × (rule.callers ≡ One caller)
   rule_of_caller caller in' =
       let found = from_map (λ (r : Rule). r.callers) (rules_at rules name) (One caller) in' in
       (found.0, All-contains (Contains rules) (rules_at rules name) found.0 (All-filter (λ (r : Rule). covers r.scope r.at name) (Contains rules) rules (All-contains_itself rules)) found.1, found.2)
 
-  is_identifier : (caller : List ℕ) → IsNamedIn (rules_at rules name) caller → IsIdentifier caller
+  pub is_identifier : (caller : List ℕ) → IsNamedIn (rules_at rules name) caller → IsIdentifier caller
   is_identifier caller in' = let r = rule_of_caller caller in' in subst AreCallers r.2 (callers r.0 r.1)
 
+module _ (rules : List Rule) (few : length rules ≤ 1024) (callers : (rule : Rule) → Contains rules rule → AreCallers rule.callers) (name : List (List ℕ)) (rights : NameRights) (are : AreRightsAt rules name rights) where
   -- what all others have is granted to an identifier that no rule names
   others_have : Meet rights.others rights.others → (caller : List ℕ) × IsIdentifier caller × ((t : RecordType) × (a : Action) × IsGranted rules caller name t a)
   others_have m = (free.0, free.1, (m.record_type, m.action, (are.granted free.0 m.record_type m.action).0 (ap (λ (n : ℕ). has_point n m.record_type m.action) (by (looked_up rights.named.items rights.others free.0)) ∙ m.in_one)))
@@ -195,7 +199,7 @@ module _ (rules : List Rule) (few : length rules ≤ 1024) (callers : (rule : Ru
       unlisted : (row : CallerRights) → Contains rights.named.items row → row.caller ≢ free.0
       unlisted row in' is =
           let named = All-contains (λ (x : CallerRights). IsNamedIn (rules_at rules name) x.caller) rights.named.items row are.named in' in
-          let r = rule_of_caller row.caller named in
+          let r = rule_of_caller rules callers name row.caller named in
           let no' = free.2 (One row.caller) (subst (Contains (map (λ (x : Rule). x.callers) rules)) r.2 (in_map (λ (x : Rule). x.callers) rules r.0 r.1)) in
           false≢true (sym no' ∙ (bytes_eq-Decides row.caller free.0).1 is)
 
@@ -224,7 +228,7 @@ module _ (rules : List Rule) (few : length rules ≤ 1024) (callers : (rule : Ru
           first : (b : Bool) → has_point row.rights d.record_type d.action ≡ b → (caller : List ℕ) × IsIdentifier caller × ((t : RecordType) × (a : Action) × IsGranted rules caller name t a)
           first true has = (
             row.caller,
-            is_identifier row.caller (All-contains (λ (x : CallerRights). IsNamedIn (rules_at rules name) x.caller) rights.named.items row are.named in'),
+            is_identifier rules callers name row.caller (All-contains (λ (x : CallerRights). IsNamedIn (rules_at rules name) x.caller) rights.named.items row are.named in'),
             (d.record_type, d.action, (are.granted row.caller d.record_type d.action).0 (ap (λ (n : ℕ). has_point n d.record_type d.action) own ∙ has)),
           )
           first false has =
@@ -292,107 +296,6 @@ adds_row claims name group rights old new few all is among alike are (inr (added
         let g = some_grant (rules_of claims) (omega (arith, few, length-map claims (λ (x : Claim). x.rule.now))) callers name rights are some in
         record { name = name; valid = is; among = among; caller = g.0; identifier = g.1; record_type = g.2.0; action = g.2.1; granted = g.2.2 }
 
-row_later : (rules : List Rule) (rows : List GroupRights) (row : GroupRights) (name : List (List ℕ)) → HasRow rules rows name ⊎ HasNoGrant rules name → HasRow rules (rows ++ row ∷ []) name ⊎ HasNoGrant rules name
-row_later rules rows row name (inl has) = inl (record { row = has.row; among = Contains-append_left rows (row ∷ []) has.row has.among; group = has.group })
-row_later rules rows row name (inr none) = inr none
-
-pub rows_none : (rules : List Rule) → AreRowsOf rules [] []
-rows_none rules = record {
-  rights = All-nil (IsRowOf rules);
-  granted = All-nil (λ (row : GroupRights). HasGrant rules row.group);
-  done = λ group in'. absurd (omega (arith, in'.1));
-  among = All-nil (λ (row : GroupRights). Contains [] row.group);
-  ordered = λ i j d less lt. absurd (omega arith);
-}
-
-group_added : (rules : List Rule) (groups : List NameGroup) (group : NameGroup) (old new : List GroupRights) → ((g : NameGroup) → Contains groups g → IsBefore g group) → AddsGroup rules group old new → AreRowsOf rules groups old → AreRowsOf rules (groups ++ group ∷ []) new
-group_added rules groups group old new before (inl (same, none)) are = subst (AreRowsOf rules (groups ++ group ∷ [])) (sym same) (record {
-  rights = are.rights;
-  granted = are.granted;
-  done = λ g in'.
-      ⊎_elim
-      (λ (earlier : Contains groups g). are.done g earlier)
-      (λ (here : group ≡ g). λ name is among. inr (none name is (subst (IsInGroup rules name) (sym here) among)))
-      (Contains-push_cases groups group g in');
-  among = All-weaker (λ (row : GroupRights). Contains groups row.group) (λ (row : GroupRights). Contains (groups ++ group ∷ []) row.group) (λ row in'. Contains-append_left groups (group ∷ []) row.group in') old are.among;
-  ordered = are.ordered;
-})
-group_added rules groups group old new before (inr (row, added, is, rights, grant)) are = subst (AreRowsOf rules (groups ++ group ∷ [])) (sym added) (record {
-  rights = All-push (IsRowOf rules) old row are.rights rights;
-  granted = All-push (λ (r : GroupRights). HasGrant rules r.group) old row are.granted (subst (HasGrant rules) (sym is) grant);
-  done = λ g in'.
-      ⊎_elim
-      (λ (earlier : Contains groups g). λ name valid among. row_later rules old row name (are.done g earlier name valid among))
-      (λ (here : group ≡ g). λ name valid among. inl (record { row = row; among = Contains-push old row; group = subst (IsInGroup rules name) (sym here ∙ sym is) among }))
-      (Contains-push_cases groups group g in');
-  among = All-push (λ (r : GroupRights). Contains (groups ++ group ∷ []) r.group) old row
-      (All-weaker (λ (r : GroupRights). Contains groups r.group) (λ (r : GroupRights). Contains (groups ++ group ∷ []) r.group) (λ r in'. Contains-append_left groups (group ∷ []) r.group in') old are.among)
-      (subst (Contains (groups ++ group ∷ [])) (sym is) (Contains-push groups group));
-  ordered = all_pairs_push (λ (x y : GroupRights). IsBefore x.group y.group) old row are.ordered
-      (λ k d lt. subst (IsBefore (get_or old k d).group) (sym is) (before (get_or old k d).group (are.among k d lt)));
-})
-
 pub on_ok : {T E : Type 0} (P Q : Type 0) → (P → Q) → (r : Result T E) → OnOk r P → OnOk r Q
 on_ok P Q f (Ok v) p = f p
 on_ok P Q f (Err e) p = tt
-
--- ---- rows, one top after the other
-
-group_top : (tops : List (List (List ℕ))) (g : NameGroup) → Contains (groups_of tops) g → Contains tops (top_of g)
-group_top [] g (k, lt, is) = absurd (omega (arith, lt))
-group_top (top ∷ tops) g (zero, lt, is) = (0, omega arith, ap top_of is)
-group_top (top ∷ tops) g (suc zero, lt, is) = (0, omega arith, ap top_of is)
-group_top (top ∷ tops) g (suc (suc k), lt, is) = let r = group_top tops g (k, omega (arith, lt), is) in (suc r.0, omega (arith, r.1), r.2)
-
-top_group : (tops : List (List (List ℕ))) (g : NameGroup) → Contains tops (top_of g) → Contains (groups_of tops) g
-top_group [] g (k, lt, is) = absurd (omega (arith, lt))
-top_group (top ∷ tops) (Exactly t) (zero, lt, is) = (0, omega arith, ap Exactly is)
-top_group (top ∷ tops) (Below t) (zero, lt, is) = (1, omega arith, ap Below is)
-top_group (top ∷ tops) g (suc k, lt, is) = let r = top_group tops g (k, omega (arith, lt), is) in (suc (suc r.0), omega (arith, r.1), r.2)
-
-before_both : (g : NameGroup) (top : List (List ℕ)) → canonical_cmp (top_of g) top ≡ Less → IsBefore g (Exactly top) × IsBefore g (Below top)
-before_both (Exactly a) top e = (e, inr e)
-before_both (Below a) top e = (e, e)
-
-module _ (rules : List Rule) (tops : List (List (List ℕ))) (are : AreTops rules tops) (n : ℕ) (top : List (List ℕ)) (lt : n < length tops) (is : top ≡ get_or tops n top) where
-  earlier_less : (g : NameGroup) → Contains (groups_of (take n tops)) g → canonical_cmp (top_of g) top ≡ Less
-  earlier_less g in' =
-      let t = group_top (take n tops) g in' in
-      let k = t.0 in
-      let near : k < n = omega (arith, t.1, length-take n tops) in
-      let at : get_or tops k (top_of g) ≡ top_of g = sym (get_or-take n tops k (top_of g) near) ∙ t.2 in
-      let here : get_or tops n (top_of g) ≡ top = sym (is ∙ get_or_default tops n top (top_of g) lt) in
-      subst (λ (x : List (List ℕ)). canonical_cmp (top_of g) x ≡ Less) here
-      (subst (λ (x : List (List ℕ)). canonical_cmp x (get_or tops n (top_of g)) ≡ Less) at (are.ordered k n (top_of g) near lt))
-
-  groups_more : groups_of (take (n + 1) tops) ≡ (groups_of (take n tops) ++ Exactly top ∷ []) ++ Below top ∷ []
-  groups_more =
-      ap groups_of (take_more tops n top lt ∙ ap (λ (t : List (List ℕ)). take n tops ++ t ∷ []) (sym is))
-      ∙ flat_map-append (λ (t : List (List ℕ)). Exactly t ∷ Below t ∷ []) (take n tops) (top ∷ [])
-      ∙ sym (append_assoc (groups_of (take n tops)) (Exactly top ∷ []) (Below top ∷ []))
-
-  pub top_added : (old middle new : List GroupRights) → AddsGroup rules (Exactly top) old middle → AddsGroup rules (Below top) middle new → AreRowsOf rules (groups_of (take n tops)) old → AreRowsOf rules (groups_of (take (n + 1) tops)) new
-  top_added old middle new one other rows =
-      subst (λ (l : List NameGroup). AreRowsOf rules l new) (sym groups_more)
-      (group_added rules (groups_of (take n tops) ++ Exactly top ∷ []) (Below top) middle new below other
-      (group_added rules (groups_of (take n tops)) (Exactly top) old middle (λ g in'. (before_both g top (earlier_less g in')).0) one rows))
-    where
-      below : (g : NameGroup) → Contains (groups_of (take n tops) ++ Exactly top ∷ []) g → IsBefore g (Below top)
-      below g in' =
-          ⊎_elim
-          (λ (earlier : Contains (groups_of (take n tops)) g). (before_both g top (earlier_less g earlier)).1)
-          (λ (here : Exactly top ≡ g). subst (λ (h : NameGroup). IsBefore h (Below top)) here (inl refl))
-          (Contains-push_cases (groups_of (take n tops)) (Exactly top) g in')
-
-  pub top_there : IsTop rules top × IsName top
-  top_there = ((are.each top).0 (n, lt, sym is), subst IsName (sym is) (are.valid n top lt))
-
-pub rows_all : (rules : List Rule) (tops : List (List (List ℕ))) (n : ℕ) (rows : List GroupRights) → AreTops rules tops → length tops ≤ n → AreRowsOf rules (groups_of (take n tops)) rows → AreGroupRights rules rows
-rows_all rules tops n rows are all rows' = record {
-  rights = rows'.rights;
-  granted = rows'.granted;
-  complete = λ name is.
-      let one = one_group rules name in
-      rows'.done one.group (subst (λ (l : List (List (List ℕ))). Contains (groups_of l) one.group) (sym (take_all n tops all)) (top_group tops one.group ((are.each (top_of one.group)).1 (group_near rules name one.group one.among).at))) name is one.among;
-  ordered = rows'.ordered;
-}

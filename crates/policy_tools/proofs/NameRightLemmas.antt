@@ -25,7 +25,7 @@ use Rattle.policy_tools.specs.Points.{has_point, names_point, Differ}
 use Rattle.policy_tools.specs.Taking.{includes}
 use Rattle.policy_tools.specs.Claims.{HasPairs, IsClaim, rules_of}
 use Rattle.grant_policy.specs.Isolated.{question, IsGranted}
-use Rattle.policy_tools.specs.NameRights.{rules_at, IsNamedIn, IsNamedBefore, listed_of, AreRightsAt, claims_at, does_grant, grants_to, HasGrants, IsListed, NeedsNoRow, AddsRow, AreRows, AreListed}
+use Rattle.policy_tools.specs.NameRights.{rules_at, IsNamedIn, IsNamedBefore, listed_in, listed_of, AreRightsAt, claims_at, does_grant, grants_to, HasGrants, IsListed, NeedsNoRow, AddsRow, AreRows, AreListed}
 use Rattle.policy_tools.proofs.CallerLemmas.{names, not_named}
 use Rattle.grant_policy.proofs.DecisionLaws.{granted_by}
 use Rattle.policy_tools.proofs.ClaimLemmas.{in_map, from_map}
@@ -69,7 +69,7 @@ abbrev pub AreWalked : List Claim → Callers → ℕ → ℕ → ℕ → Type 0
 AreWalked claims callers n granted decided =
     (t : RecordType) (a : Action) → grants_to claims callers t a ≡ (has_point granted t a || (not (has_point decided t a) && grants_to (drop n claims) callers t a))
 
-drop_at : {X : Type 0} (xs : List X) (n : ℕ) (x : X) → n < length xs → x ≡ get_or xs n x → drop n xs ≡ x ∷ drop (n + 1) xs
+pub drop_at : {X : Type 0} (xs : List X) (n : ℕ) (x : X) → n < length xs → x ≡ get_or xs n x → drop n xs ≡ x ∷ drop (n + 1) xs
 drop_at {X} xs n x lt is =
     let e : suc n ≡ n + 1 = omega arith in
     drop-cons xs n x lt ∙ ap (λ (y : X). y ∷ drop (suc n) xs) (sym is) ∙ ap (λ (k : ℕ). x ∷ drop k xs) e
@@ -273,20 +273,43 @@ rows_more claims others n rule old new lt is (inr (row, added, new')) rows = sub
 
 -- ---- what is listed
 
-pub looked_up : (rows : List CallerRights) (others : ℕ) (caller : List ℕ) → ((row : CallerRights) × Contains rows row × (row.caller ≡ caller) × (listed_of rows others caller ≡ row.rights)) ⊎ ((¬ IsListed rows caller) × (listed_of rows others caller ≡ others))
-looked_up [] others caller = inr (λ in'. absurd (omega (arith, in'.1)), refl)
-looked_up (row ∷ rows) others caller = step (bytes_eq row.caller caller) refl (looked_up rows others caller)
+-- rows are looked at one by one
+pub looked_on : (rows : List CallerRights) (others : ℕ) (caller : List ℕ) (n : ℕ) (row : CallerRights) → n < length rows → row ≡ get_or rows n row → bytes_eq row.caller caller ≡ false
+    → listed_of rows others caller ≡ listed_of (drop n rows) others caller → listed_of rows others caller ≡ listed_of (drop (n + 1) rows) others caller
+looked_on rows others caller n row lt is no' e =
+    e ∙ ap (λ (l : List CallerRights). listed_of l others caller) (drop_at rows n row lt is)
+    ∙ ap (λ (b : Bool). cond b row.rights (listed_of (drop (n + 1) rows) others caller)) no'
+
+pub looked_at : (rows : List CallerRights) (others : ℕ) (caller : List ℕ) (n : ℕ) (row : CallerRights) → n < length rows → row ≡ get_or rows n row → bytes_eq row.caller caller ≡ true
+    → listed_of rows others caller ≡ listed_of (drop n rows) others caller → row.rights ≡ listed_of rows others caller
+looked_at rows others caller n row lt is yes' e =
+    sym (e ∙ ap (λ (l : List CallerRights). listed_of l others caller) (drop_at rows n row lt is)
+    ∙ ap (λ (b : Bool). cond b row.rights (listed_of (drop (n + 1) rows) others caller)) yes')
+
+pub looked_past : (rows : List CallerRights) (others : ℕ) (caller : List ℕ) (n : ℕ) → length rows ≤ n
+    → listed_of rows others caller ≡ listed_of (drop n rows) others caller → others ≡ listed_of rows others caller
+looked_past rows others caller n all e = sym (e ∙ ap (λ (l : List CallerRights). listed_of l others caller) (drop_all n rows all))
+
+-- a caller is looked up among rows: one of them is its own, or it has none
+pub looked_up_in : {R V : Type 0} (caller_of : R → List ℕ) (value_of : R → V) (rows : List R) (others : V) (caller : List ℕ)
+    → ((row : R) × Contains rows row × (caller_of row ≡ caller) × (listed_in caller_of value_of rows others caller ≡ value_of row)) ⊎ ((¬ Contains (map caller_of rows) caller) × (listed_in caller_of value_of rows others caller ≡ others))
+looked_up_in caller_of value_of [] others caller = inr (λ in'. absurd (omega (arith, in'.1)), refl)
+looked_up_in {R} {V} caller_of value_of (row ∷ rows) others caller = step (bytes_eq (caller_of row) caller) refl (looked_up_in caller_of value_of rows others caller)
   where
-    later : (bytes_eq row.caller caller ≡ false) → ¬ IsListed rows caller → ¬ IsListed (row ∷ rows) caller
-    later no' none (zero, lt, is) = absurd (false≢true (sym no' ∙ (bytes_eq-Decides row.caller caller).1 is))
+    later : (bytes_eq (caller_of row) caller ≡ false) → ¬ Contains (map caller_of rows) caller → ¬ Contains (map caller_of (row ∷ rows)) caller
+    later no' none (zero, lt, is) = absurd (false≢true (sym no' ∙ (bytes_eq-Decides (caller_of row) caller).1 is))
     later no' none (suc k, lt, is) = none (k, omega (arith, lt), is)
 
-    step : (b : Bool) → bytes_eq row.caller caller ≡ b
-        → ((r : CallerRights) × Contains rows r × (r.caller ≡ caller) × (listed_of rows others caller ≡ r.rights)) ⊎ ((¬ IsListed rows caller) × (listed_of rows others caller ≡ others))
-        → ((r : CallerRights) × Contains (row ∷ rows) r × (r.caller ≡ caller) × (cond b row.rights (listed_of rows others caller) ≡ r.rights)) ⊎ ((¬ IsListed (row ∷ rows) caller) × (cond b row.rights (listed_of rows others caller) ≡ others))
-    step true e rest = inl (row, (0, omega arith, refl), (bytes_eq-Decides row.caller caller).0 e, refl)
+    step : (b : Bool) → bytes_eq (caller_of row) caller ≡ b
+        → ((r : R) × Contains rows r × (caller_of r ≡ caller) × (listed_in caller_of value_of rows others caller ≡ value_of r)) ⊎ ((¬ Contains (map caller_of rows) caller) × (listed_in caller_of value_of rows others caller ≡ others))
+        → ((r : R) × Contains (row ∷ rows) r × (caller_of r ≡ caller) × (cond b (value_of row) (listed_in caller_of value_of rows others caller) ≡ value_of r))
+        ⊎ ((¬ Contains (map caller_of (row ∷ rows)) caller) × (cond b (value_of row) (listed_in caller_of value_of rows others caller) ≡ others))
+    step true e rest = inl (row, (0, omega arith, refl), (bytes_eq-Decides (caller_of row) caller).0 e, refl)
     step false e (inl (r, in', of, is)) = inl (r, later_in r row rows in', of, is)
     step false e (inr (none, is)) = inr (later e none, is)
+
+pub looked_up : (rows : List CallerRights) (others : ℕ) (caller : List ℕ) → ((row : CallerRights) × Contains rows row × (row.caller ≡ caller) × (listed_of rows others caller ≡ row.rights)) ⊎ ((¬ IsListed rows caller) × (listed_of rows others caller ≡ others))
+looked_up rows others caller = looked_up_in (λ (row : CallerRights). row.caller) (λ (row : CallerRights). row.rights) rows others caller
 
 module _ (claims : List Claim) (name : List (List ℕ)) (all : (c : Claim) → Contains claims c → HasPairs c × (covers c.rule.now.scope c.rule.now.at name ≡ true)) (rights : NameRights) (are : AreListed claims rights) where
   decided_of : List ℕ → RecordType → Action → Bool

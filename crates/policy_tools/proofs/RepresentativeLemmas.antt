@@ -48,7 +48,7 @@ not_free rules name taken =
     (cases_Bool (list_any (λ rule. same_name rule.at name) rules))
 
 -- there are more names of two letters than rules
-pub too_many : (rules : List Rule) (top : List (List ℕ)) (n : ℕ) → length rules ≤ 1024 → n ≡ length rules + 1 → ((k : ℕ) → k < n → ¬ IsFree rules (pair_of k ∷ top)) → ⊥
+pub too_many : (rules : List Rule) (top : List (List ℕ)) (n : ℕ) → length rules ≤ 2048 → n ≡ length rules + 1 → ((k : ℕ) → k < n → ¬ IsFree rules (pair_of k ∷ top)) → ⊥
 too_many rules top n few is taken = omega (arith, at_least (λ (rule : Rule). first_number rule.at) rules n numbered)
   where
     numbered : (k : ℕ) → k < n → HasNumber (λ (rule : Rule). first_number rule.at) rules k

@@ -34,9 +34,9 @@ pub record AddsServed (rules : List Rule) (top : List (List ℕ)) (old new : Lis
 
 -- ---- labels by number
 
--- a to z, and then 0 to 9
+-- a to z, then from 0 to @, and then from ] to `: folded octets that stand for themselves in a label
 abbrev pub letter_of : ℕ → ℕ
-letter_of n = if nat_lt n 26 then 97 + n else 22 + n
+letter_of n = if nat_lt n 26 then 97 + n else (if nat_lt n 43 then 22 + n else 50 + n)
 
 abbrev pub pair_of : ℕ → List ℕ
-pair_of n = letter_of (n / 36) ∷ letter_of (n % 36) ∷ []
+pair_of n = letter_of (n / 47) ∷ letter_of (n % 47) ∷ []

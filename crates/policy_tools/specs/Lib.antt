@@ -9,3 +9,4 @@ pub mod EntryRights
 pub mod Exposures
 pub mod NameRights
 pub mod NameGroups
+pub mod Changes

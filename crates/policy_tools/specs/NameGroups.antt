@@ -59,10 +59,13 @@ abbrev pub IsRowOf : List Rule → GroupRights → Type 0
 IsRowOf rules row = (name : List (List ℕ)) → IsName name → IsInGroup rules name row.group → AreRightsAt rules name row.rights
 
 -- a name's group has a row
-pub record HasRow (rules : List Rule) (rows : List GroupRights) (name : List (List ℕ)) : Type 0 where
-  pub row : GroupRights
+pub record HasRowOf {R : Type 0} (group_of : R → NameGroup) (rules : List Rule) (rows : List R) (name : List (List ℕ)) : Type 0 where
+  pub row : R
   pub among : Contains rows row
-  pub group : IsInGroup rules name row.group
+  pub group : IsInGroup rules name (group_of row)
+
+abbrev pub HasRow : List Rule → List GroupRights → List (List ℕ) → Type 0
+HasRow rules rows name = HasRowOf (λ (row : GroupRights). row.group) rules rows name
 
 -- The rows of a policy. What a row lists are the rights at each name of its group, and some of them are granted; where a name's group
 -- has no row nothing is granted there; and rows are in order.
@@ -84,24 +87,28 @@ pub record AreTops (rules : List Rule) (tops : List (List (List ℕ))) : Type 0 
 abbrev pub groups_of : List (List (List ℕ)) → List NameGroup
 groups_of tops = flat_map (λ top. Exactly top ∷ Below top ∷ []) tops
 
--- the group has a row, or nothing is granted at any of its names
-abbrev pub IsDone : List Rule → List GroupRights → NameGroup → Type 0
-IsDone rules rows group = (name : List (List ℕ)) → IsName name → IsInGroup rules name group → HasRow rules rows name ⊎ HasNoGrant rules name
+-- Rows of any kind are added group by group: a row of the group, where it has something to list, or else none.
+abbrev pub AddsRowOf : {R : Type 0} → (R → NameGroup) → (R → Type 0) → (NameGroup → Type 0) → (List (List ℕ) → Type 0) → List Rule → NameGroup → List R → List R → Type 0
+AddsRowOf {R} group_of IsRow Lists IsBare rules group old new =
+    ((new ≡ old) × ((name : List (List ℕ)) → IsName name → IsInGroup rules name group → IsBare name))
+    ⊎ ((row : R) × (new ≡ old ++ row ∷ []) × (group_of row ≡ group) × IsRow row × Lists group)
+
+-- the rows of some groups, by the same
+pub record AreRowsOf {R : Type 0} (group_of : R → NameGroup) (IsRow : R → Type 0) (Lists : NameGroup → Type 0) (IsBare : List (List ℕ) → Type 0) (rules : List Rule) (groups : List NameGroup) (rows : List R) : Type 0 where
+  pub rights : All IsRow rows
+  pub lists : All (λ row. Lists (group_of row)) rows
+  pub done : (group : NameGroup) → Contains groups group → (name : List (List ℕ)) → IsName name → IsInGroup rules name group → HasRowOf group_of rules rows name ⊎ IsBare name
+  pub among : All (λ row. Contains groups (group_of row)) rows
+  pub ordered : AllPairs (λ x y. IsBefore (group_of x) (group_of y)) rows
 
 -- the row of a group is added, where something is granted in it
 abbrev pub AddsGroup : List Rule → NameGroup → List GroupRights → List GroupRights → Type 0
-AddsGroup rules group old new =
-    ((new ≡ old) × ((name : List (List ℕ)) → IsName name → IsInGroup rules name group → HasNoGrant rules name))
-    ⊎ ((row : GroupRights) × (new ≡ old ++ row ∷ []) × (row.group ≡ group) × IsRowOf rules row × HasGrant rules group)
+AddsGroup rules = AddsRowOf (λ (row : GroupRights). row.group) (IsRowOf rules) (HasGrant rules) (HasNoGrant rules) rules
+
+-- the rights of some groups
+abbrev pub AreRightsOf : List Rule → List NameGroup → List GroupRights → Type 0
+AreRightsOf rules = AreRowsOf (λ (row : GroupRights). row.group) (IsRowOf rules) (HasGrant rules) (HasNoGrant rules) rules
 
 -- a row is added, unless nothing is granted by it
 abbrev pub PushesRow : GroupRights → List GroupRights → List GroupRights → Type 0
 PushesRow row old new = ((new ≡ old) × HasNoRights row.rights) ⊎ ((new ≡ old ++ row ∷ []) × (¬ HasNoRights row.rights))
-
--- the rows of some groups
-pub record AreRowsOf (rules : List Rule) (groups : List NameGroup) (rows : List GroupRights) : Type 0 where
-  pub rights : All (IsRowOf rules) rows
-  pub granted : All (λ row. HasGrant rules row.group) rows
-  pub done : (group : NameGroup) → Contains groups group → IsDone rules rows group
-  pub among : All (λ row. Contains groups row.group) rows
-  pub ordered : AllPairs (λ x y. IsBefore x.group y.group) rows

@@ -31,10 +31,14 @@ pub record IsNamedBefore (rules : List Rule) (caller other : List ℕ) : Type 0 
   pub named : IsNamedIn (take upto rules) caller
   pub unnamed : ¬ IsNamedIn (take upto rules) other
 
--- what is listed of a caller: what its own row has, or what all others have
+-- what rows by callers list of one: what its own row has, or what all others have
+abbrev pub listed_in : {R V : Type 0} → (R → List ℕ) → (R → V) → List R → V → List ℕ → V
+listed_in caller_of value_of [] others caller = others
+listed_in caller_of value_of (row ∷ rows) others caller = if bytes_eq (caller_of row) caller then value_of row else listed_in caller_of value_of rows others caller
+
+-- the rights that are listed of a caller
 abbrev pub listed_of : List CallerRights → ℕ → List ℕ → ℕ
-listed_of [] others caller = others
-listed_of (row ∷ rows) others caller = if bytes_eq row.caller caller then row.rights else listed_of rows others caller
+listed_of rows others caller = listed_in (λ (row : CallerRights). row.caller) (λ (row : CallerRights). row.rights) rows others caller
 
 -- The rights at a name. What is listed of each caller is exactly what is granted to it there; a caller has a row of its own only where
 -- it has other rights than all others; and rows are in the order in which the rules that cover the name first name their callers.

@@ -31,7 +31,7 @@ pub(crate) fn free_child(
     rules: &[Rule],
     top: &Name,
 ) -> Result<Option<Name>, AllocError>
-    requires { length rules.now ≤ 1024 }
+    requires { length rules.now ≤ 2048 }
     ensures { IfOk result (IsFreeChild rules.now top.now) }
 {
     let has_two = fits(alloc, b"aa", top)?;
@@ -59,9 +59,9 @@ fn fits(alloc: Global, text: &[u8], top: &Name) -> Result<bool, AllocError>
     }
 }
 
-/// A free name below one that has room for two octets more. There are more names of two letters and digits than rules.
+/// A free name below one that has room for two octets more. There are more names of two such letters than rules.
 fn long_child(alloc: Global, rules: &[Rule], top: &Name) -> Result<Option<Name>, AllocError>
-    requires few { length rules.now ≤ 1024 }
+    requires few { length rules.now ≤ 2048 }
     requires name { IsName top.now }
     requires room { wire_len top.now ≤ 252 }
     ensures { IfOk result (IsFreeChild rules.now top.now) }
@@ -75,29 +75,29 @@ fn long_child(alloc: Global, rules: &[Rule], top: &Name) -> Result<Option<Name>,
     unreachable!()
 }
 
-/// The name of the label of this number, of two letters and digits, below `top`.
+/// The name of the label of this number, of two letters, below `top`.
 fn numbered_child(alloc: Global, number: usize, top: &Name) -> Result<Name, AllocError>
-    requires number { number < 1296 }
+    requires number { number < 2209 }
     requires name { IsName top.now }
     requires room { wire_len top.now ≤ 252 }
     ensures { IfOk result (λ name. name ≡ pair_of number ∷ top.now) }
 {
-    let text = [letter(number / 36), letter(number % 36)];
+    let text = [letter(number / 47), letter(number % 47)];
     match Name::read_relative(alloc, &text, top) {
         Ok(name) => Ok(name),
         Err(_) => Err(AllocError),
     }
 }
 
-/// A lower-case letter, or behind all of them a digit.
+/// An octet that is folded and stands for itself in a label: a lower-case letter, one from `0` to `@`, or one from `]` to `` ` ``.
 fn letter(number: usize) -> u8
-    requires { number < 36 }
+    requires { number < 47 }
     ensures { result ≡ letter_of number }
 {
-    let octet = if number < 26 {
-        97 + number
-    } else {
-        22 + number
+    let octet = match number {
+        0..26 => 97 + number,
+        26..43 => 22 + number,
+        _ => 50 + number,
     };
     octet as u8
 }

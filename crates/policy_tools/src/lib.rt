@@ -1,14 +1,16 @@
 //! What is true of a policy whatever is asked: which of its rules never decide, what keeps a caller from being isolated, and who
-//! may do what at each name. Names are infinitely many, but each is covered by the same rules as one of a short list of names, and
+//! may do what at each name, and what another policy changes of that. Names are infinitely many, but each is covered by the same rules as one of a short list of names, and
 //! each caller that no rule names is like any other.
 #![tactic(auto)]
 
+mod changes;
 mod claims;
 mod entry_rights;
 mod exposure;
 mod free_names;
 mod idle;
 mod laws;
+mod name_changes;
 mod name_groups;
 mod name_rights;
 mod points;
@@ -18,9 +20,11 @@ mod shared_callers;
 mod taking;
 mod wanted;
 
+pub use changes::{GroupChanges, changes_by_group};
 pub use exposure::{Exposure, Right, isolation};
 pub use idle::{IdleRule, idle_rules};
 pub use laws::each_name_is_in_one_group;
+pub use name_changes::{CallerChange, Change, NameChanges};
 pub use name_groups::{GroupRights, NameGroup, rights_by_group};
 pub use name_rights::{CallerRights, NameRights, rights_at};
 pub use rights::Rights;

@@ -55,7 +55,7 @@ fn rows_of(alloc: Global, rules: &[Rule]) -> Result<Vec<GroupRights>, AllocError
 }
 
 /// The root and the names of the rules, each once, in canonical order.
-fn tops(alloc: Global, rules: &[Rule]) -> Result<Vec<Name>, AllocError>
+pub(crate) fn tops(alloc: Global, rules: &[Rule]) -> Result<Vec<Name>, AllocError>
     ensures { IfOk result (λ tops. AreTops rules.now tops.items) }
 {
     let mut tops = names_of(alloc, rules)?;

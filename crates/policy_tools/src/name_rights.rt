@@ -6,7 +6,7 @@ ghost use Rattle.dns_data.specs.declared.record_type.RecordType.{RecordType as T
 ghost use Rattle.grant_policy.specs.declared.action.Action.{Action as ActionOf};
 ghost use Rattle.policy_tools.specs.Claims.{IsClaim, rules_of};
 ghost use Rattle.policy_tools.specs.Points.{has_point};
-ghost use Rattle.policy_tools.specs.NameRights.{AreRightsAt, AreListed, AddsRow, HasGrants, HasNoRights, claims_at, does_grant};
+ghost use Rattle.policy_tools.specs.NameRights.{AreRightsAt, AreListed, AddsRow, HasGrants, HasNoRights, claims_at, does_grant, listed_of};
 
 use crate::claims::{Claim, claims_of};
 use crate::points::Points;
@@ -39,6 +39,18 @@ impl NameRights {
         ensures { IsTrue result ↔ HasNoRights self.now }
     {
         self.named.is_empty() && self.others.is_empty()
+    }
+
+    /// The rights of a caller.
+    pub fn of(&self, caller: &Identifier) -> &Rights
+        ensures { result.now ≡ listed_of self.now.named.items self.now.others caller.now }
+    {
+        for row in &self.named {
+            if row.caller.as_bytes() == caller.as_bytes() {
+                return &row.rights;
+            }
+        }
+        &self.others
     }
 }
 
