@@ -31,6 +31,7 @@ argument_row argument.Longest = (codes "longest", Number)
 argument_row argument.Number = (codes "number", OptionalPlace)
 argument_row argument.Subject = (codes "subject", Place)
 argument_row argument.CheckedPolicy = (codes "policy", Asked)
+argument_row argument.Against = (codes "against", Optional)
 argument_row argument.CheckedOrigin = (codes "origin", Asked)
 argument_row argument.CheckedName = (codes "name", OptionalPlace)
 argument_row argument.Isolated = (codes "caller", Asked)
@@ -71,7 +72,7 @@ command_row command.Plan = (codes "plan", argument.Policy ∷ argument.Caller �
 command_row command.Serve =
     (codes "serve", argument.Store ∷ argument.Policy ∷ argument.Listen ∷ argument.Connections ∷ argument.Patience ∷ argument.Longest ∷ [])
 command_row command.Check =
-    (codes "check", argument.Subject ∷ argument.CheckedName ∷ argument.CheckedPolicy ∷ argument.Isolated ∷ argument.CheckedOrigin ∷ argument.Only ∷ argument.Not ∷ [])
+    (codes "check", argument.Subject ∷ argument.CheckedName ∷ argument.CheckedPolicy ∷ argument.Against ∷ argument.Isolated ∷ argument.CheckedOrigin ∷ argument.Only ∷ argument.Not ∷ [])
 command_row command.Explain = (codes "explain", argument.Number ∷ argument.Json ∷ [])
 
 abbrev pub command_word : Command → Text

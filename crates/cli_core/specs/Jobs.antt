@@ -64,7 +64,8 @@ subject word = (argument.Subject, given word)
 -- ---- the table of jobs
 
 abbrev pub asks_check : Check → JobOf
-asks_check (check.Policy policy) = (command.Check, subject (codes "policy") ∷ (argument.CheckedPolicy, given policy.now) ∷ [])
+asks_check (check.Policy policy against) =
+    (command.Check, subject (codes "policy") ∷ (argument.CheckedPolicy, given policy.now) ∷ (argument.Against, text (option_map (λ p. p.now) against)) ∷ [])
 asks_check (check.Isolation policy caller) =
     (command.Check, subject (codes "isolation") ∷ (argument.CheckedPolicy, given policy.now) ∷ (argument.Isolated, given caller.now) ∷ [])
 asks_check (check.Rights policy name) =

@@ -13,7 +13,7 @@ use Rattle.cli_core.specs.declared.commands.Command.TheVariants as command
 -- what `check` reads, by the word of its subject
 abbrev pub subjects : List (Text × List Argument)
 subjects =
-    (codes "policy", argument.CheckedPolicy ∷ [])
+    (codes "policy", argument.CheckedPolicy ∷ argument.Against ∷ [])
     ∷ (codes "isolation", argument.CheckedPolicy ∷ argument.Isolated ∷ [])
     ∷ (codes "rights", argument.CheckedName ∷ argument.CheckedPolicy ∷ [])
     ∷ (codes "zone", argument.CheckedOrigin ∷ argument.Only ∷ argument.Not ∷ []) ∷ []

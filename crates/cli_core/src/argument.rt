@@ -26,6 +26,7 @@ pub enum Argument {
     Number,
     Subject,
     CheckedPolicy,
+    Against,
     CheckedOrigin,
     CheckedName,
     Isolated,
@@ -157,6 +158,11 @@ impl Argument {
                 name: "policy",
                 form: Form::Asked,
                 help: "The path of the policy; needed by all but zone",
+            },
+            Argument::Against => &Row {
+                name: "against",
+                form: Form::Optional,
+                help: "The path of the policy as it is, to see what the other changes",
             },
             Argument::CheckedOrigin => &Row {
                 name: "origin",

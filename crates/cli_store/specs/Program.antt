@@ -27,6 +27,7 @@ use Rattle.cli_text.specs.declared.check.Findings.{Findings}
 use Rattle.cli_text.specs.declared.check.Findings.TheVariants.{Absent, Present}
 use Rattle.cli_text.specs.declared.check.Subject.{Subject}
 use Rattle.cli_text.specs.declared.check.Subject.TheVariants.{Rules, Isolation, Rights, Zone}
+use Rattle.cli_text.specs.declared.changes_fault.ChangesFault.{ChangesFault}
 use Rattle.cli_text.specs.declared.diff_fault.DiffFault.{DiffFault}
 use Rattle.cli_core.specs.Inputs.{InputOf}
 use Rattle.cli_text.specs.Apply.{apply_text}
@@ -37,6 +38,7 @@ use Rattle.cli_text.specs.Rights.{rights_text}
 use Rattle.cli_text.specs.Explain.{explain_text}
 use Rattle.cli_core.specs.Replies.{line_of, IsSent, Answered}
 use Rattle.cli_text.specs.Check.{Checked}
+use Rattle.cli_text.specs.PolicyChangeAnswers.{AreChangesChecked}
 use Rattle.cli_text.specs.Diff.{Differs}
 use Rattle.cli_text.specs.Plan.{IsPlanned}
 use Rattle.wire_tcp.specs.Connections.{Writing}
@@ -84,7 +86,7 @@ status_of (Ok done) = 0
 status_of (Err fault) = 1
 
 -- 0 where a check went through and found nothing, and else 1
-abbrev pub check_status_of : Result Findings JobFault → ℕ
+abbrev pub check_status_of : {F : Type 0} → Result Findings F → ℕ
 check_status_of (Ok Absent) = 0
 check_status_of (Ok Present) = 1
 check_status_of (Err fault) = 1
@@ -101,6 +103,11 @@ EndsTask left fine failed answer o status = (outcome : Result (Unit {0}) JobFaul
 abbrev pub EndsCheck : Subject → Option (List ℕ) → Type 0 → Type 0 → Writing → ℕ → Type 0
 EndsCheck subject left fine failed o status = (outcome : Result Findings JobFault)
     × Checked subject left o.old o.new outcome fine failed o.before o.after × (status ≡ check_status_of outcome)
+
+-- The policy of the first path is read, and the other checked against it. At 0 both were read, and the other changes nothing.
+abbrev pub EndsChanges : {H : Type 0} → Around H → List ℕ → List ℕ → Writing → ℕ → Type 0
+EndsChanges a against policy o status = (outcome : Result Findings ChangesFault)
+    × AreChangesChecked (named a against) (named a policy) o.old o.new outcome o.before o.after × (status ≡ check_status_of outcome)
 
 -- The items between the zones of two files: a path that is `-` is standard input, of which nothing is left for the second file where the
 -- first is it too. Where neither is, standard input is not read.
@@ -121,9 +128,10 @@ abbrev pub requested : RequestForm → List ℕ → List ℕ → Result (List �
 requested Whole word = request_text word
 requested Split word = split_text word
 
--- A check reads the file of its policy, or standard input where that is a zone.
+-- A check reads the file of its policy, and of another against which it is checked, or standard input where that is a zone.
 abbrev pub CheckEnds : {H : Type 0} → Around H → Reading → Writing → Check → ℕ → Type 0
-CheckEnds a i o (check.Policy policy) status = IsUnread i × EndsCheck Rules (a.file policy.now) ⊤ (a.unreadable policy.now) o status
+CheckEnds a i o (check.Policy policy None) status = IsUnread i × EndsCheck Rules (a.file policy.now) ⊤ (a.unreadable policy.now) o status
+CheckEnds a i o (check.Policy policy (Some against)) status = IsUnread i × EndsChanges a against.now policy.now o status
 CheckEnds a i o (check.Isolation policy caller) status = IsUnread i × EndsCheck (Isolation caller) (a.file policy.now) ⊤ (a.unreadable policy.now) o status
 CheckEnds a i o (check.Rights policy name) status = IsUnread i × EndsCheck (Rights name) (a.file policy.now) ⊤ (a.unreadable policy.now) o status
 CheckEnds a i o (check.Zone origin rules) status = EndsCheck (Zone origin rules) i.left (i.after ≡ i.before) (i.before < i.after) o status

@@ -5,7 +5,7 @@ ghost use Rattle.std.specs.Process.{exit_status};
 ghost use Rattle.sqlite.specs.Held.{state};
 ghost use Rattle.cli_text.specs.Plan.{IsPlanned};
 ghost use Rattle.cli_store.specs.Stores.{stores_of};
-ghost use Rattle.cli_store.specs.Program.{Ends, EndsTask, EndsCheck, DiffersBy, named, standard, requested, CheckEnds, TextJobEnds, StoreJobEnds, JobEnds, EndsFault, WordsEnd, IsToldWhole, status_of, check_status_of};
+ghost use Rattle.cli_store.specs.Program.{Ends, EndsTask, EndsCheck, EndsChanges, DiffersBy, named, standard, requested, CheckEnds, TextJobEnds, StoreJobEnds, JobEnds, EndsFault, WordsEnd, IsToldWhole, status_of, check_status_of};
 
 use crate::files::StoreFiles;
 use crate::migration::migrate;
@@ -19,7 +19,8 @@ use cli_core::{
     WordsFault, ZoneFiles, read_words, write_text,
 };
 use cli_text::{
-    Apply, DiffFault, Findings, Request, Split, Subject, Task, do_check, do_diff, do_plan,
+    Apply, DiffFault, Findings, Request, Split, Subject, Task, do_changes, do_check, do_diff,
+    do_plan,
 };
 use dns_master::{Sink, Source};
 use sqlite::{Alter, Connection};
@@ -61,7 +62,10 @@ fn do_task<M: Surroundings, T: Task, I: Input, W: Sink>(
 }
 
 /// The exit status of a check: 0 if it found nothing, else 1, after the words that say why it was not done.
-fn check_status<M: Surroundings>(around: &M, done: Result<Findings, JobFault>) -> ExitCode
+fn check_status<M: Surroundings, F: Display + Drop>(
+    around: &M,
+    done: Result<Findings, F>,
+) -> ExitCode
     ensures { exit_status result ≡ check_status_of done }
 {
     match done {
@@ -103,6 +107,31 @@ fn check_file<M: Surroundings, W: Sink>(
     check(around, subject, &mut file, output)
 }
 
+/// Writes what the policy of a path changes against that of another.
+fn changes<M: Surroundings, W: Sink>(
+    around: &M,
+    against: &str,
+    policy: &str,
+    output: &mut W,
+) -> ExitCode
+    ensures { EndsChanges (M.around around.now) against.now policy.now
+        (record { old = W.contents output.old; new = W.contents output.new; before = W.failures output.old; after = W.failures output.new })
+        (exit_status result) }
+{
+    let mut old = NamedFile {
+        around,
+        path: against,
+    };
+    let mut new = NamedFile {
+        around,
+        path: policy,
+    };
+    check_status(
+        around,
+        do_changes(around.alloc(), &mut old, &mut new, output),
+    )
+}
+
 /// Checks what the words of `check` name.
 fn check_job<M: Surroundings, R: Source, W: Sink>(
     around: &M,
@@ -116,7 +145,14 @@ fn check_job<M: Surroundings, R: Source, W: Sink>(
         (exit_status result) }
 {
     match words {
-        Check::Policy { policy } => check_file(around, Subject::Rules, policy, output),
+        Check::Policy {
+            policy,
+            against: None,
+        } => check_file(around, Subject::Rules, policy, output),
+        Check::Policy {
+            policy,
+            against: Some(against),
+        } => changes(around, against, policy, output),
         Check::Isolation { policy, caller } => {
             check_file(around, Subject::Isolation(caller), policy, output)
         }

@@ -37,6 +37,7 @@ use Rattle.cli_core.specs.Device.{AppendsFront}
 use Rattle.cli_text.specs.Canon.{zone_of_file}
 use Rattle.cli_text.specs.ZoneCheck.{filter_of, IsZoneReport}
 use Rattle.cli_text.specs.RightsCheck.{IsRightsText}
+use Rattle.cli_text.specs.PolicyChanges.{IsChangesReport}
 use Rattle.cli_core.specs.LineFaults.{◌>>=◌, or_refused, limited, of_names, of_policies, Makes, ReachesInput}
 use Rattle.cli_core.specs.Refusals.{refused_line}
 use Rattle.cli_core.specs.Replies.{line_of}
@@ -55,6 +56,7 @@ name_if (Some word) = of_names (absolute_name word) >>= λ name. Ok (Some name)
 -- what words ask for: the rules for a zone are read before its origin
 abbrev pub asked_in : Subject → Result Asked Refusal
 asked_in subject.Rules = Ok asked.Rules
+asked_in (subject.Changes old) = Ok (asked.Changes old)
 asked_in (subject.Isolation word) = or_refused (identifier_of word.now) NoCaller >>= λ caller. Ok (asked.Isolation caller)
 asked_in (subject.Rights word) = name_if (option_map (λ w. w.now) word) >>= λ name. Ok (asked.Rights name)
 asked_in (subject.Zone origin rules) = filter_of rules >>= λ filter. of_names (absolute_name origin.now) >>= λ name. Ok (asked.Zone name filter)
@@ -62,6 +64,7 @@ asked_in (subject.Zone origin rules) = filter_of rules >>= λ filter. of_names (
 -- what that is in an input: a policy, or the file of a zone
 abbrev pub checking_of : Asked → List ℕ → Result Checking Refusal
 checking_of asked.Rules text = rules_in text >>= λ rules. Ok (checking.Rules rules)
+checking_of (asked.Changes old) text = rules_in text >>= λ rules. Ok (checking.Changes old rules)
 checking_of (asked.Isolation caller) text = rules_in text >>= λ rules. Ok (checking.Isolation caller rules)
 checking_of (asked.Rights name) text = rules_in text >>= λ rules. Ok (checking.Rights name rules)
 checking_of (asked.Zone origin filter) text = zone_of_file origin text >>= λ zone. Ok (checking.Zone zone filter)
@@ -140,6 +143,7 @@ IsIsolationReport rules caller findings text =
 -- what is printed of rights finds nothing
 abbrev pub IsReportOn : Checking → Findings → List ℕ → Type 0
 IsReportOn (checking.Rules rules) findings text = IsReport rules findings text
+IsReportOn (checking.Changes old rules) findings text = IsChangesReport old.now rules findings text
 IsReportOn (checking.Isolation caller rules) findings text = IsIsolationReport rules caller findings text
 IsReportOn (checking.Rights name rules) findings text = IsRightsText name rules text × (findings ≡ Absent)
 IsReportOn (checking.Zone zone filter) findings text = IsZoneReport zone filter findings text

@@ -6,7 +6,9 @@ pub mod Rights
 pub mod Explain
 pub mod ZoneCheck
 pub mod RightsCheck
+pub mod PolicyChanges
 pub mod Check
+pub mod PolicyChangeAnswers
 pub mod Guards
 pub mod GuardPromises
 pub mod Diff

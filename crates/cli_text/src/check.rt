@@ -1,5 +1,5 @@
-//! What is true of a policy whatever is asked: which of its rules never decide, whether a caller is isolated, and who may do what. And what
-//! is wrong in a zone.
+//! What is true of a policy whatever is asked: which of its rules never decide, what it changes, whether a caller is isolated, and who may do
+//! what. And what is wrong in a zone.
 
 ghost use Rattle.std.specs.Prelude.{◌≡◌, ◌++◌, ◌<◌, ℕ, IfOk, OnOk, decimal, option_map};
 ghost use Rattle.cli_text.specs.RightsCheck.{IsRightsText};
@@ -8,6 +8,7 @@ ghost use Rattle.cli_core.specs.LineFaults.{Gives, GivesOf};
 ghost use Rattle.cli_text.specs.Check.{rules_in, name_if, asked_in, checking_of, checked_read, id_text, idle_head, idle_line, idle_text, findings_of, IsReport, right_text, other_text, exposure_line, isolation_line, exposures_of, IsIsolationReport, IsReportOn, Reports, Checked};
 
 use crate::canon::{read_name, zone_of_file};
+use crate::policy_changes::changes_report;
 use crate::rights::read_caller;
 use crate::rights_check::rights_list;
 use crate::zone_check::{RuleFilter, filter_of, zone_report};
@@ -24,6 +25,8 @@ use zone_core::Zone;
 pub enum Subject<'a> {
     /// Which of its rules never decide.
     Rules,
+    /// What it changes against this policy.
+    Changes(&'a Policy),
     /// Whether the caller that this word names is isolated.
     Isolation(&'a str),
     /// Who may do what, at the name that this word is, or at all names.
@@ -43,8 +46,9 @@ pub enum Findings {
 
 /// What is asked of an input, by words that were read.
 #[derive(Drop)]
-enum Asked {
+enum Asked<'a> {
     Rules,
+    Changes(&'a Policy),
     Isolation(Identifier),
     Rights(Option<Name>),
     Zone(Name, RuleFilter),
@@ -52,8 +56,9 @@ enum Asked {
 
 /// What is checked, of an input that was read.
 #[derive(Drop)]
-enum Checking {
+enum Checking<'a> {
     Rules(Policy),
+    Changes(&'a Policy, Policy),
     Isolation(Identifier, Policy),
     Rights(Option<Name>, Policy),
     Zone(Zone, RuleFilter),
@@ -77,7 +82,11 @@ pub fn name_if(alloc: Global, word: Option<&str>) -> Result<Option<Name>, LineFa
 }
 
 /// The origin and the rules of a zone to check. The refusal of the rules comes first.
-fn zone_asked(alloc: Global, origin: &str, rules: RuleChoice<'_>) -> Result<Asked, LineFault>
+fn zone_asked<'a>(
+    alloc: Global,
+    origin: &str,
+    rules: RuleChoice<'_>,
+) -> Result<Asked<'a>, LineFault>
     ensures { Gives (λ wanted. wanted) result (asked_in (Subject.Zone origin.entry rules.entry)) }
 {
     let filter = filter_of(rules)?;
@@ -85,11 +94,12 @@ fn zone_asked(alloc: Global, origin: &str, rules: RuleChoice<'_>) -> Result<Aske
 }
 
 /// What words ask for.
-fn asked_in(alloc: Global, subject: Subject<'_>) -> Result<Asked, LineFault>
+fn asked_in<'a>(alloc: Global, subject: Subject<'a>) -> Result<Asked<'a>, LineFault>
     ensures { Gives (λ wanted. wanted) result (asked_in subject.entry) }
 {
     match subject {
         Subject::Rules => Ok(Asked::Rules),
+        Subject::Changes(old) => Ok(Asked::Changes(old)),
         Subject::Isolation(word) => Ok(Asked::Isolation(read_caller(alloc, word)?)),
         Subject::Rights(word) => Ok(Asked::Rights(name_if(alloc, word)?)),
         Subject::Zone(origin, rules) => zone_asked(alloc, origin, rules),
@@ -97,18 +107,23 @@ fn asked_in(alloc: Global, subject: Subject<'_>) -> Result<Asked, LineFault>
 }
 
 /// The policy of a text, whose octets are given back.
-fn policy_in(alloc: Global, text: Vec<u8>) -> Result<Policy, LineFault>
+pub(crate) fn policy_in(alloc: Global, text: Vec<u8>) -> Result<Policy, LineFault>
     ensures { Gives (λ policy. policy) result (rules_in text.items) }
 {
     Ok(read_policy(alloc, &text)?)
 }
 
 /// What is checked, of the text of an input.
-fn checking_of(alloc: Global, wanted: Asked, text: Vec<u8>) -> Result<Checking, LineFault>
-    ensures { Gives (λ checking. checking) result (checking_of wanted text.items) }
+fn checking_of<'a>(
+    alloc: Global,
+    wanted: Asked<'a>,
+    text: Vec<u8>,
+) -> Result<Checking<'a>, LineFault>
+    ensures { Gives (λ checking. checking) result (checking_of wanted.entry text.items) }
 {
     match wanted {
         Asked::Rules => Ok(Checking::Rules(policy_in(alloc, text)?)),
+        Asked::Changes(old) => Ok(Checking::Changes(old, policy_in(alloc, text)?)),
         Asked::Isolation(caller) => Ok(Checking::Isolation(caller, policy_in(alloc, text)?)),
         Asked::Rights(name) => Ok(Checking::Rights(name, policy_in(alloc, text)?)),
         Asked::Zone(origin, filter) => {
@@ -118,11 +133,11 @@ fn checking_of(alloc: Global, wanted: Asked, text: Vec<u8>) -> Result<Checking, 
 }
 
 /// What is checked, of what a reader gives. The refusals of the words come before those of the input.
-fn checked_read<R: Input>(
+fn checked_read<'a, R: Input>(
     alloc: Global,
-    subject: Subject<'_>,
+    subject: Subject<'a>,
     reader: &mut R,
-) -> Result<Checking, LineFault>
+) -> Result<Checking<'a>, LineFault>
     ensures { GivesOf (λ checking. checking) (R.left reader.old) (checked_read subject.entry) result (R.fine reader.old reader.new)
         (R.failed reader.old reader.new) }
 {
@@ -303,11 +318,12 @@ fn rights_report(alloc: Global, policy: &Policy, name: &Option<Name>) -> Result<
 }
 
 /// The report on what is checked. The only error is out of memory.
-fn report_on(alloc: Global, checking: &Checking) -> Result<Report, AllocError>
+fn report_on(alloc: Global, checking: &Checking<'_>) -> Result<Report, AllocError>
     ensures { IfOk result (λ report. IsReportOn checking.now report.findings report.text.items) }
 {
     match checking {
         Checking::Rules(policy) => rules_report(alloc, policy),
+        Checking::Changes(old, new) => changes_report(alloc, old, new),
         Checking::Isolation(caller, policy) => isolation_report(alloc, policy, caller),
         Checking::Rights(name, policy) => rights_report(alloc, policy, name),
         Checking::Zone(zone, rules) => zone_report(alloc, zone, *rules),

@@ -4,6 +4,7 @@
 
 mod apply;
 mod canon;
+mod changes_fault;
 mod check;
 mod diff;
 mod diff_fault;
@@ -16,6 +17,7 @@ mod parts;
 mod pieces;
 mod plan;
 mod plan_fault;
+mod policy_changes;
 mod request;
 mod rights;
 mod rights_check;
@@ -26,6 +28,7 @@ mod zone_check;
 
 pub use apply::Apply;
 pub use canon::{print_zone_in, read_name, read_zone};
+pub use changes_fault::ChangesFault;
 pub use check::{Findings, Subject, do_check, name_if};
 pub use diff::do_diff;
 pub use diff_fault::DiffFault;
@@ -34,6 +37,7 @@ pub use laws::{
 };
 pub use plan::{do_plan, push_signed};
 pub use plan_fault::PlanFault;
+pub use policy_changes::do_changes;
 pub use request::Request;
 pub use rights::read_caller;
 pub use split::Split;

@@ -94,7 +94,11 @@ fn lines_of(
 }
 
 /// What a caller may do: a line for each action, with its types.
-fn caller_lines(alloc: Global, head: &[u8], rights: &Rights) -> Result<Vec<u8>, AllocError>
+pub(crate) fn caller_lines(
+    alloc: Global,
+    head: &[u8],
+    rights: &Rights,
+) -> Result<Vec<u8>, AllocError>
     ensures { IfOk result (λ text. text.items ≡ caller_lines head.now rights.now) }
 {
     lines_of(alloc, head, rights, &Action::ALL)
@@ -112,7 +116,7 @@ fn push_or_nothing(head: &[u8], lines: &[u8], text: &mut Vec<u8>) -> Result<(), 
 }
 
 /// A scope and a caller, with a space between them.
-fn head_of(alloc: Global, scope: &[u8], caller: &[u8]) -> Result<Vec<u8>, AllocError>
+pub(crate) fn head_of(alloc: Global, scope: &[u8], caller: &[u8]) -> Result<Vec<u8>, AllocError>
     ensures { IfOk result (λ head. head.items ≡ scope.now ++ 32 ∷ caller.now) }
 {
     let mut head = Vec::from_slice(alloc, scope)?;
@@ -185,7 +189,7 @@ fn name_scope(alloc: Global, name: &Name) -> Result<String, AllocError>
 }
 
 /// The words for a group of names.
-fn scope_text(alloc: Global, group: &NameGroup) -> Result<String, AllocError>
+pub(crate) fn scope_text(alloc: Global, group: &NameGroup) -> Result<String, AllocError>
     ensures { IfOk result (λ scope. string_bytes scope ≡ scope_text group.now) }
 {
     match group {

@@ -3,11 +3,13 @@
 mod devices;
 mod diffs;
 mod plans;
+mod policies;
 mod trials;
 
 use crate::commands::devices::{Command, Manner};
 use crate::commands::diffs::push_diff;
 use crate::commands::plans::push_plan;
+use crate::commands::policies::push_against;
 use cli_core::{JobFault, LineFault};
 use cli_text::Findings;
 use std::alloc::{AllocError, Global};
@@ -31,6 +33,7 @@ pub fn push_command_answer(
             push_diff(alloc, row, answer)
         }
         "plan" | "plan-reads" | "plan-write" => push_plan(alloc, row, answer),
+        "against" | "against-reads" | "against-write" => push_against(alloc, row, answer),
         "no-memory" => push_status(alloc, Err(JobFault::Reported(LineFault::NoMemory)), answer),
         name => push_run(
             alloc,

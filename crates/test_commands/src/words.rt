@@ -96,7 +96,10 @@ fn push_text_job(job: &TextJob<'_>, answer: &mut Vec<u8>) -> Result<(), AllocErr
 
 fn push_check(words: &Check<'_>, answer: &mut Vec<u8>) -> Result<(), AllocError> {
     match words {
-        Check::Policy { policy } => push_given("check policy", policy, "", answer),
+        Check::Policy { policy, against } => {
+            push_all(&["check policy (", policy, ")"], answer)?;
+            push_if_given(*against, answer)
+        }
         Check::Isolation { policy, caller } => push_all(
             &["check isolation (", policy, ") (", caller, ")"],
             answer,

@@ -15,10 +15,12 @@ use clap::ArgMatches;
 /// The words of `check`, by its subject.
 #[derive(Clone, Copy)]
 pub enum Check<'a> {
-    /// To find the rules of a policy that never decide.
+    /// To find the rules of a policy that never decide, or what it changes.
     Policy {
         /// The path of the policy.
         policy: &'a str,
+        /// The path of the policy against which it is checked, where one is given.
+        against: Option<&'a str>,
     },
     /// To find what keeps a caller of a policy from being isolated.
     Isolation {
@@ -51,6 +53,7 @@ pub(super) static ROW: Row = Row {
         Argument::Subject,
         Argument::CheckedName,
         Argument::CheckedPolicy,
+        Argument::Against,
         Argument::Isolated,
         Argument::CheckedOrigin,
         Argument::Only,
@@ -86,7 +89,8 @@ fn policy_in<'a>(matches: &ArgMatches<'a>) -> Option<Check<'a>>
     ensures { option_map asks_check result ≡ check_by (codes "policy") (rows_of (found_of matches.now)) }
 {
     let policy = text_at(matches, Argument::CheckedPolicy)?;
-    Some(Check::Policy { policy })
+    let against = text_at(matches, Argument::Against);
+    Some(Check::Policy { policy, against })
 }
 
 /// The job of `check isolation`.
