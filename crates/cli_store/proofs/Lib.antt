@@ -9,4 +9,6 @@ pub mod ListLemmas
 pub mod LoggedLemmas
 pub mod StreamLemmas
 pub mod ServedLemmas
+pub mod DeedLemmas
+pub mod DiskLemmas
 pub mod StartLemmas

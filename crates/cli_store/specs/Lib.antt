@@ -10,5 +10,5 @@ pub mod ZoneList
 pub mod StoreLog
 pub mod StoreList
 pub mod Serve
-pub mod Starts
 pub mod Program
+pub mod Starts

@@ -1,6 +1,20 @@
 use Rattle.sqlite.specs.Held.{state}
+use Rattle.cli_store.proofs.DeedLemmas as deeds
 use Rattle.cli_store.proofs.StartLemmas as the
 use Rattle.cli_store.proofs.start_laws.starts_have_one_history.Goals as goal
 
-pub returns : goal.returns
-returns g c = the.starts_have_one_history (state g.S.Store) (record { cut = g.K.Socket.cut; gives = g.K.Socket.gives; ends = g.K.Socket.ends; flow = g.K.Peer.Peer.flow; limits = g.K.Peer.Peer.limits })
+pub returns-clause-history : goal.returns-clause-history
+returns-clause-history g c = the.starts_have_one_history (record {
+  around = g.M.Surroundings.around;
+  callers = record { cut = g.M.Listener.Socket.cut; gives = g.M.Listener.Socket.gives; ends = g.M.Listener.Socket.ends; flow = g.M.Listener.Peer.Peer.flow; limits = g.M.Listener.Peer.Peer.limits };
+  shows = state g.S.Store;
+  finds = g.P.StoreFiles.finds;
+  refuses = g.P.StoreFiles.refuses;
+  connects = g.P.StoreFiles.connects;
+}) (λ conn db up may. g.met.S.Store.settled conn.store db up may)
+
+pub returns-clause-kept : goal.returns-clause-kept
+returns-clause-kept g c = deeds.deeds_keep_receipts
+
+pub returns-clause-once : goal.returns-clause-once
+returns-clause-once g c = deeds.deeds_are_made_once
