@@ -1,0 +1,4 @@
+pub mod Answers
+pub mod AnswerTests
+pub mod Views
+pub mod AnswerLaws

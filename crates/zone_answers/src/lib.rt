@@ -1,0 +1,18 @@
+//! What an authoritative server answers from a zone (RFC 1034 section 4.3.2), with wildcards (RFC 4592), negative answers (RFC
+//! 2308) and codes after aliases (RFC 6604). DNSSEC is left out. An index is built once of a zone, and answers questions.
+#![tactic(auto)]
+
+mod answer;
+mod cut_names;
+mod finding;
+mod laws;
+mod query_type;
+mod rows;
+mod zone_index;
+
+pub use answer::Answer;
+pub use laws::{
+    answers_are_of_zones, cuts_refer, missing_names_are_nowhere, questions_have_one_answer,
+};
+pub use query_type::QueryType;
+pub use zone_index::ZoneIndex;
