@@ -117,11 +117,11 @@ pub record Meets (scope : GuardScope) (old new now : ZoneOf) : Type 0 where
 abbrev pub DiffsTell : Type 0
 DiffsTell =
     (scope : GuardScope) (old new now : ZoneOf) → Meets scope old new now → (r : Record) → IsIn r old.records ⊎ IsIn r new.records
-    → changes_set old.records new.records operations_of old new r ≡ true → HaveSameSet now.records old.records r
+    → changes_set old.records new.records (operations_of old new) r ≡ true → HaveSameSet now.records old.records r
 
 -- and so has the set of each record that an operation adds or deletes
 abbrev pub OperationsTell : Type 0
-OperationsTell = (scope : GuardScope) (old new now : ZoneOf) → Meets scope old new now → (r : Record) → IsOfOperation operations_of old new r → HaveSameSet now.records old.records r
+OperationsTell = (scope : GuardScope) (old new now : ZoneOf) → Meets scope old new now → (r : Record) → IsOfOperation (operations_of old new) r → HaveSameSet now.records old.records r
 
 -- no record is there for which a record of a new set is left out
 abbrev pub DiffsHaveRoom : Type 0
@@ -133,7 +133,7 @@ abbrev pub DiffsAreMadeBeside : Type 0
 DiffsAreMadeBeside =
     (scope : GuardScope) (old new now : ZoneOf) → Meets scope old new now → (r : Record) → type_of r.rdata ≢ types.Soa
     → HaveSameSet (zone_after now (update_in (Guarded scope) old new)).records
-    (if changes_set old.records new.records operations_of old new r then new.records else now.records) r
+    (if changes_set old.records new.records (operations_of old new) r then new.records else now.records) r
 
 -- there are prerequisites exactly where there are operations
 abbrev pub OperationsAreGuarded : Type 0
