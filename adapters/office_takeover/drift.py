@@ -16,7 +16,7 @@ import dns.tsigkeyring
 
 from office_asking import NotGiven, printable
 from office_settings import Settings, Wrong, read_settings
-from office_takeover.clauses import ALGORITHMS
+from office_takeover.clauses import Key, name_of
 from office_takeover.records import LARGEST, Parts, Zone, read_master
 
 SECONDS = 300  # for a transfer
@@ -33,12 +33,9 @@ class Primary:  # pylint: disable=too-few-public-methods
             raise Wrong(f"{settings.where}: primary is no ADDRESS or ADDRESS#PORT")
         self.address, self.port = found[1], int(found[2] or 53)
         key, secret, algorithm = settings.text("key"), settings.text("secret"), settings.text("algorithm") or "hmac-sha256"
-        if (key is None) != (secret is None) or algorithm not in ALGORITHMS:
-            raise Wrong(f"{settings.where}: a key has a secret, and an algorithm of {' '.join(ALGORITHMS)}")
-        try:
-            self.ring = dns.tsigkeyring.from_text({key: (algorithm, secret)}) if key and secret else None
-        except (dns.exception.DNSException, ValueError):
-            raise Wrong(f"{settings.where}: key is no name, or secret not base64") from None
+        if (key is None) != (secret is None):
+            raise Wrong(f"{settings.where}: a key has a secret")
+        self.ring = _ring(Key(name_of(key, settings.where), algorithm, secret, settings.where)) if key and secret else None
 
     def zone(self, origin: str) -> Parts:
         """A zone of it."""
@@ -55,6 +52,14 @@ class Primary:  # pylint: disable=too-few-public-methods
         except (dns.exception.DNSException, OSError, EOFError, ValueError) as error:
             raise NoTransfer(f"{origin} from {self.address}#{self.port}: {printable(str(error) or type(error).__name__)}") from None
         return zone.parts()
+
+
+def _ring(key: Key) -> dict[dns.name.Name, dns.tsig.Key]:
+    fault = key.fault()
+    if fault:
+        raise Wrong(f"{key.where}: the key: {fault}")
+    found: dict[dns.name.Name, dns.tsig.Key] = dns.tsigkeyring.from_text({key.name.to_text(): (key.algorithm, key.secret)})
+    return found
 
 
 class NoTransfer(Wrong):

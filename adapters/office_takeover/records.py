@@ -134,7 +134,8 @@ def read_master(text: str, origin: dns.name.Name, path: str) -> Zone:
     try:
         reader.read()
     except (dns.exception.DNSException, ValueError, UnicodeError) as error:
-        raise Wrong(printable(str(error), 400)) from None
+        hint = "; `dig +unknownformat` writes types that are not known here as RFC 3597 has them" if "generic rdata" in str(error) else ""
+        raise Wrong(printable(str(error), 400) + hint) from None
     return zone
 
 
