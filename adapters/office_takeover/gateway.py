@@ -19,8 +19,8 @@ def gateway_text(found: Configuration, listen: list[str], reader: str) -> tuple[
     zones = [zone.origin.to_text() for zone in found.zones]
     head = ("# The configuration of the gateway of DNS UPDATE (docs/adapters.md), with the keys of named.conf. Only root reads it.\n"
             f'listen = {json.dumps(listen)}\noffice = "unix:/run/zoneoffice/2136.sock"\nzones = {json.dumps(zones)}\nreader = "{reader}"\n'
-            "# as clients of BIND expect it: names of zones are found, plain questions for the SOA answered, DHCID kept as TXT\n"
-            "find-zone = true\nanswer-soa = true\ndhcid-as-txt = true\nnarrow-deletes = true\n")
+            "# as clients of BIND expect it: zones of names are found, questions for SOA and sets answered, DHCID kept as TXT\n"
+            "find-zone = true\nanswer-soa = true\nanswer-sets = true\ndhcid-as-txt = true\nnarrow-deletes = true\n")
     return "\n".join([head, *keys]), left
 
 
