@@ -132,7 +132,7 @@ class _ZoneRules:
             elif key and key.name not in barred and not narrowed and not key.fault():
                 rules += self._rules("grant", key, "subtree", self.zone.origin, ALL_TYPES, actions, statement)
                 continue
-            if one.words != ["none"] and not (one.word(0) == "!" and name):
+            if one.words != ["none"] and not (name and (one.word(0) == "!" or name in barred)):
                 why = f"it is after {narrowed.text}" if narrowed and key else key.fault() if key else None
                 self._not_taken(statement, f"{one.text}: {why or 'only keys that are defined are taken'}")
         return rules

@@ -2,6 +2,7 @@
 
 import dataclasses
 import os
+import re
 import secrets
 from collections.abc import Iterable
 from typing import Any
@@ -18,6 +19,7 @@ from office_asking import printable
 from office_records import TYPES
 from office_takeover.named import Wrong
 
+GENERIC = re.compile(r"^(?P<head>[^\n;\"]*\s)(?P<type>\w+)[ \t]+\\#[ \t]+(?P<length>[0-9]{1,5})(?P<data>(?:[ \t]+[0-9A-Fa-f]+)*)[ \t\r]*$", re.M)
 LARGEST = 256 << 20  # octets of a master file
 SIGNER = {"RRSIG", "NSEC", "NSEC3", "NSEC3PARAM", "DNSKEY", "CDS", "CDNSKEY", "ZONEMD", "SIG", "NXT", "TYPE65534"}  # BIND's own: 65534
 
@@ -125,10 +127,22 @@ class _Into:  # pylint: disable=too-few-public-methods
         """No check: an office has its own."""
 
 
+def _presented(found: re.Match[str]) -> str:
+    """A record of RFC 3597's form in its own, if its type is known: the reader takes names in such data for relative ones."""
+    try:
+        kind, data = dns.rdatatype.from_text(found["type"]), bytes.fromhex(found["data"])
+        if len(data) != int(found["length"]) or dns.rdata.get_rdata_class(dns.rdataclass.IN, kind) is dns.rdata.GenericRdata:
+            return found[0]
+        text = dns.rdata.from_wire(dns.rdataclass.IN, kind, data, 0, len(data)).to_text()
+    except (dns.exception.DNSException, ValueError):
+        return found[0]
+    return f"{found['head']}{found['type']} {text}"
+
+
 def read_master(text: str, origin: dns.name.Name, path: str) -> Zone:
     """The records of a master file. $INCLUDE and $GENERATE are refused: named-compilezone writes them out."""
     zone = Zone(origin)
-    reader = _Reader(dns.tokenizer.Tokenizer(text, path), dns.rdataclass.IN, _Into(zone),  # type: ignore[arg-type]
+    reader = _Reader(dns.tokenizer.Tokenizer(GENERIC.sub(_presented, text), path), dns.rdataclass.IN, _Into(zone),  # type: ignore[arg-type]
                      allow_directives={"$ORIGIN", "$TTL"})
     reader.current_origin = reader.last_name = origin
     try:

@@ -48,15 +48,18 @@ class Reading(unittest.TestCase):
 
     def test_faults(self) -> None:
         """Each has its place."""
-        for text, words in (("a {\n b; ", "has no end"), ("a; }", "one too many"), ("a { b };", ":1: a semicolon"), ("a;\n/* b", ":2: a quote or a comment"),
-                            ("a " + "{" * 51, "braces"), ("b", "has no end"), ('include "FOLDER/no";', "/no"), ('include "FOLDER/named.conf";', "include each other"),
+        for text, words in (("a {\n b; ", "has no end"), ("a; }", "one too many"), ("a { b };", ":1: a semicolon"),
+                            ("a;\n/* b", ":2: a quote or a comment"),
+                            ("a " + "{" * 51, "braces"), ("b", "has no end"), ('include "FOLDER/no";', "/no"),
+                            ('include "FOLDER/named.conf";', "include each other"),
                             ('include "FOLDER/no*";', "there is no file"), ('include "/dev/null";', "is not a file")):
             with self.subTest(text), self.assertRaisesRegex(named.Wrong, words):
                 statements(text)
 
     def test_include(self) -> None:
         """Files, several by a pattern, and those relative to the directory; not in lists."""
-        found = statements('options { directory "FOLDER"; };\ninclude "b*";\nacl x { include "c"; };', {"b1": "one;", "b2": 'include "c";', "c": "two; three;"})
+        found = statements('options { directory "FOLDER"; };\ninclude "b*";\nacl x { include "c"; };',
+                           {"b1": "one;", "b2": 'include "c";', "c": "two; three;"})
         self.assertEqual([one.words for one in found], [["options"], ["one"], ["two"], ["three"], ["acl", "x"]])
         self.assertTrue(found[2].where.endswith("/c:1"), found[2].where)
 
@@ -75,7 +78,8 @@ class Policy(unittest.TestCase):
         for said, wanted in (("name www.example.org A", ("name", "www.example.org.")), ("subdomain a.example.org. A", ("subtree", "a.example.org.")),
                              ("wildcard *.a.example.org A", ("below", "a.example.org.")), ("zonesub A", ("subtree", "example.org.")),
                              ("subdomain org A", ("subtree", "example.org.")), ("wildcard *.org A", ("subtree", "example.org.")),
-                             ("wildcard * A", ("subtree", "example.org.")), ("name org A", None), ("subdomain example.net A", None), ("self k A", None)):
+                             ("wildcard * A", ("subtree", "example.org.")), ("name org A", None),
+                             ("subdomain example.net A", None), ("self k A", None)):
             with self.subTest(said):
                 self.assertEqual(rules(f"update-policy {{ grant k {said}; }};"), [("grant", "k", *wanted, ("A",), own)] if wanted else [])
         for kind, scope in ("self", "name"), ("selfsub", "subtree"), ("selfwild", "below"):
@@ -92,7 +96,8 @@ class Policy(unittest.TestCase):
 
     def test_identities(self) -> None:
         """A wildcard is each key that it takes in; another name is no key."""
-        self.assertEqual([one[1] for one in rules("update-policy { grant *.a zonesub A; grant * zonesub A; };", ("x.a", "a", "y.x.a"))], ["x.a", "y.x.a", "x.a", "a", "y.x.a"])
+        found = rules("update-policy { grant *.a zonesub A; grant * zonesub A; };", ("x.a", "a", "y.x.a"))
+        self.assertEqual([one[1] for one in found], ["x.a", "y.x.a", "x.a", "a", "y.x.a"])
         made = translated(KEY.format("k") + ZONE.format("update-policy { grant q zonesub A; };"))
         self.assertEqual((made.rules, "no key of this name" in made.left[0]), ([], True))
 
@@ -107,15 +112,18 @@ class Policy(unittest.TestCase):
         text = KEY.format("k") + KEY.format("l") + ZONE.format("update-policy { grant k zonesub ANY; };") + \
             'zone "a.example.org" { type master; update-policy { grant l zonesub ANY; }; };'
         found = [(one.effect, one.caller, one.scope, one.place.to_text(), one.actions) for one in translated(text).rules if "check" != one.actions[0]]
-        self.assertEqual(found, [("grant", "l", "subtree", "a.example.org.", ("add", "delete")), ("grant", "l", "below", "a.example.org.", ("delegate",)),
+        self.assertEqual(found, [("grant", "l", "subtree", "a.example.org.", ("add", "delete")),
+                                 ("grant", "l", "below", "a.example.org.", ("delegate",)),
                                  ("deny", "k", "subtree", "a.example.org.", ("list", "check", "add", "delete")),
                                  ("deny", "k", "below", "a.example.org.", ("delegate",)),
                                  ("grant", "k", "subtree", "example.org.", ("add", "delete", "delegate"))])
 
     def test_lists(self) -> None:
         """Keys of address match lists, until something narrows who uses them."""
-        for said, count, left in (("allow-update { key k; };", 1, 0), ("allow-update { ! key k; key k; key l; };", 1, 1), ("allow-update { !10.0.0.0/8; key k; };", 0, 2),
-                                  ("allow-update { { key k; }; };", 0, 1), ("allow-transfer { key l; 192.0.2.1; };", 1, 1), ("allow-update { any; };", 0, 1)):
+        for said, count, left in (("allow-update { key k; };", 1, 0), ("allow-update { ! key k; key k; key l; };", 1, 0),
+                                  ("allow-update { !10.0.0.0/8; key k; };", 0, 2),
+                                  ("allow-update { { key k; }; };", 0, 1), ("allow-transfer { key l; 192.0.2.1; };", 1, 1),
+                                  ("allow-update { any; };", 0, 1)):
             with self.subTest(said):
                 made = translated(KEY.format("k") + KEY.format("l") + ZONE.format(said))
                 self.assertEqual((len([one for one in made.rules if one.actions != ("check",)]), len(made.left)), (count, left))
@@ -123,7 +131,8 @@ class Policy(unittest.TestCase):
     def test_text(self) -> None:
         """A rule in TOML, whatever the statement has."""
         rule = policy.Rule("grant", "k", "name", dns.name.from_text("a\\.b.example.org"), ("A", "TXT"), ("add",), "x\n[[rule]]")
-        self.assertEqual(rule.text(7), '# x\\n[[rule]]\n[[rule]]\nid = "bind-7"\neffect = "grant"\ncaller = "k"\nscope = "name"\nat = "a\\\\.b.example.org."\n'
+        self.assertEqual(rule.text(7), '# x\\n[[rule]]\n[[rule]]\nid = "bind-7"\neffect = "grant"\ncaller = "k"\n'
+                                       'scope = "name"\nat = "a\\\\.b.example.org."\n'
                                        'types = ["A", "TXT"]\nactions = ["add"]\n')
 
 
@@ -132,7 +141,8 @@ class Keys(unittest.TestCase):
 
     def test_keys(self) -> None:
         """Names, secrets in pieces, and those that are not taken."""
-        text = KEY.format("A.b") + 'key "weak" { algorithm hmac-md5; secret "eA=="; };\nkey "short" { secret "eA=="; algorithm "hmac-sha512"; };\n' + ZONE.format("")
+        text = KEY.format("A.b") + 'key "weak" { algorithm hmac-md5; secret "eA=="; };\n' \
+            'key "short" { secret "eA=="; algorithm "hmac-sha512"; };\n' + ZONE.format("")
         made, left = gateway.gateway_text(clauses.configuration(statements(text)), ["127.0.0.1:53"], "publisher")
         self.assertIn(f'name = "a.b."\nalgorithm = "hmac-sha256"\nsecret = "{SECRET}"\ncaller = "a.b"\n', made)
         self.assertEqual([one.split(": ", 1)[1][:18] for one in left], ["key weak: its algo", "key short: its sec"])
@@ -165,7 +175,8 @@ class Zones(unittest.TestCase):
 
     def test_parts(self) -> None:
         """Kept types, a signer's, and the rest; the SOA first; a DS at the origin is in the rest; the least TTL of a set."""
-        parts = self.zone("$TTL 60\n@ NS a\n@ 50 CAA 0 issue \"x\"\n@ SOA a b 1 1 1 1 1\n@ DS 1 8 2 " + "ab" * 32 + "\nc 70 A 192.0.2.1\nc 80 A 192.0.2.2\nC 90 A 192.0.2.2\n"
+        parts = self.zone("$TTL 60\n@ NS a\n@ 50 CAA 0 issue \"x\"\n@ SOA a b 1 1 1 1 1\n@ DS 1 8 2 " + "ab" * 32
+                          + "\nc 70 A 192.0.2.1\nc 80 A 192.0.2.2\nC 90 A 192.0.2.2\n"
                           "@ NSEC c A\nt TYPE65280 \\# 1 01\nd DS 1 8 2 " + "ab" * 32 + "\n")
         self.assertEqual([one.split(" ", 4)[3] for one in parts.office], ["SOA", "NS", "A", "A", "DS"])
         self.assertEqual(parts.office[2:4], ["c.example.org. 70 IN A 192.0.2.1", "c.example.org. 70 IN A 192.0.2.2"])
@@ -176,6 +187,8 @@ class Zones(unittest.TestCase):
         """Data whose text does not read back have the form of RFC 3597."""
         text = "@ 1 CLASS1 SOA a b 1 1 1 1 1\n@ 1 TYPE25 \\# 2 0102\n@ 1 CLASS1 TYPE1 \\# 4 c0000201\n"
         self.assertEqual(self.zone(text).office[1:], ["example.org. 1 IN A 192.0.2.1"])
+        soa = "@ 1 CLASS1 TYPE6 \\# 52 036e7331076578616d706c65036f7267000161076578616d706c65036f726700" + " 0000000100000001" * 2 + "00000001\n"
+        self.assertIn(" SOA ns1.example.org. a.example.org. 1 1 1 1 1", self.zone(soa).office[0])
         self.assertEqual(self.zone(text).rest[0], "example.org. 1 IN KEY \\# 2 0102")
         with self.assertRaisesRegex(named.Wrong, "unknownformat"):
             self.zone("@ 1 SOA a b 1 1 1 1 1\n@ 1 KEY 256 3 8 aGVsbG8=\n")
@@ -187,7 +200,8 @@ class Zones(unittest.TestCase):
 
     def test_refused(self) -> None:
         """What is no zone, with its line."""
-        for text, words in (("@ 1 NS a\n", "no SOA"), ("a.example.net. 1 A 192.0.2.1\n", "is not within"), ("\n$INCLUDE x\n", "zone:"), ("a 1 CH A 192.0.2.1\n", "zone:"),
+        for text, words in (("@ 1 NS a\n", "no SOA"), ("a.example.net. 1 A 192.0.2.1\n", "is not within"), ("\n$INCLUDE x\n", "zone:"),
+                            ("a 1 CH A 192.0.2.1\n", "zone:"),
                             ("a A 192.0.2.1\n", "zone:"), ("@ 1 TXT \"\n", "zone:")):
             with self.subTest(text), self.assertRaisesRegex(named.Wrong, words):
                 self.zone(text)
@@ -198,7 +212,8 @@ class Drift(unittest.TestCase):
 
     def test_settings(self) -> None:
         """A primary has an address; a key has a secret."""
-        for words in ('primary = "ns1"', 'primary = "192.0.2.1#0"', 'primary = "192.0.2.1"\nkey = "k."', 'primary = "192.0.2.1"\nkey = "k."\nsecret = "?"', "primary = 1"):
+        for words in ('primary = "ns1"', 'primary = "192.0.2.1#0"', 'primary = "192.0.2.1"\nkey = "k."', 'primary = "192.0.2.1"\nkey = "k."\nsecret = "?"',
+                      "primary = 1"):
             with self.subTest(words), tempfile.TemporaryDirectory() as folder, self.assertRaises(Wrong):
                 path = pathlib.Path(folder, "takeover.toml")
                 path.write_text(f'url = "http://127.0.0.1:8053"\nzones = ["example.org."]\n{words}\n', encoding="ascii")
@@ -211,7 +226,8 @@ class Words(unittest.TestCase):
 
     def test_wrong(self) -> None:
         """Status 2, and no file."""
-        for words in ([], ["merge"], ["split", "x"], ["split", "--origin", "a b", "x", "--office", "a", "--rest", "b"], ["policy"], ["policy", "--rest", "x", "y"],
+        for words in ([], ["merge"], ["split", "x"], ["split", "--origin", "a b", "x", "--office", "a", "--rest", "b"], ["policy"],
+                      ["policy", "--rest", "x", "y"],
                       ["keys", "/nowhere"], ["policy", "/nowhere"], ["drift", "x"], ["policy", "--view", "a", "--view", "b", "/nowhere"]):
             with self.subTest(words):
                 self.assertEqual(takeover.main(words), 2)
