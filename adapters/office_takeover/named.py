@@ -37,6 +37,50 @@ class Statement:
         return self.blocks[0] if self.blocks else []
 
 
+class _State:
+    """How far a file was read: the statement that is being read, and those around it with the lists that they are in."""
+
+    def __init__(self, path: str, into: list[Statement]) -> None:
+        self.path, self.line, self.into, self.statement = path, 1, into, Statement("")
+        self.around: list[tuple[Statement, list[Statement]]] = []
+
+    def where(self) -> str:
+        """The place of what is read now."""
+        return f"{self.path}:{self.line}"
+
+    def finished(self) -> tuple[Statement | None, Statement | None]:
+        """The statement that a semicolon ends, unless it is empty, and the one around it."""
+        statement, self.statement = self.statement, Statement("")
+        return statement if statement.text else None, self.around[-1][0] if self.around else None
+
+    def take(self, found: re.Match[str]) -> None:
+        """Takes a word or a brace in."""
+        self.statement.where = self.statement.where or self.where()
+        if found["mark"] == "{":
+            self._open()
+        elif found["mark"] == "}":
+            self._close()
+        else:
+            quoted = found["quoted"]
+            self.statement.words.append(quoted.replace('\\"', '"') if quoted is not None else found[0])
+            self.statement.text += (" " if self.statement.text else "") + found[0]
+
+    def _open(self) -> None:
+        self.statement.text += (" " if self.statement.text else "") + "{ "
+        self.around.append((self.statement, self.into))
+        self.into = []
+        self.statement.blocks.append(self.into)
+        self.statement = Statement("")
+        if len(self.around) > DEPTH:
+            raise Wrong(f"{printable(self.where())}: more than {DEPTH} braces are open")
+
+    def _close(self) -> None:
+        if self.statement.text or not self.around:
+            raise Wrong(f"{printable(self.where())}: a semicolon is missing before }}, or }} is one too many")
+        self.statement, self.into = self.around.pop()
+        self.statement.text += " ".join(f"{one.text};" for one in self.statement.blocks[-1]) + " }"
+
+
 class _Reader:
     """Reads a file and what it includes, within bounds for all of them."""
 
@@ -66,46 +110,22 @@ class _Reader:
 
     def text(self, text: str, path: str, into: list[Statement], inside: int) -> None:
         """Reads the text of a file."""
-        open_ones: list[tuple[Statement, list[Statement]]] = []  # the statements around, and the lists they are in
-        statement, line, place = Statement(""), 1, 0
+        state = _State(path, into)
+        place = 0
         while place < len(text):
             found = TOKEN.match(text, place)
             if not found:
-                raise Wrong(f"{printable(path)}:{line}: a quote or a comment has no end")
-            mark = found["mark"]
-            statement.where = statement.where or (f"{path}:{line}" if found["space"] is None else "")
-            if mark == "{":
-                statement.text += "{ "
-                open_ones.append((statement, into))
-                into = []
-                statement.blocks.append(into)
-                statement = Statement("")
-                if len(open_ones) > DEPTH:
-                    raise Wrong(f"{printable(path)}:{line}: more than {DEPTH} braces are open")
-            elif mark == "}":
-                if statement.text or not open_ones:
-                    raise Wrong(f"{printable(path)}:{line}: a semicolon is missing before }}, or }} is one too many")
-                outer, into = open_ones.pop()
-                outer.text += " ".join(f"{one.text};" for one in outer.blocks[-1]) + " }"
-                statement = outer
-            elif mark == ";":
-                if statement.text:
-                    self._end(statement, into, open_ones[-1][0] if open_ones else None, inside)
-                statement = Statement("")
+                raise Wrong(f"{printable(state.where())}: a quote or a comment has no end")
+            if found["mark"] == ";":
+                statement, outer = state.finished()
+                if statement:
+                    self._end(statement, state.into, outer, inside)
             elif found["space"] is None:
-                self._word(statement, found)
-            line += text.count("\n", place, found.end())
+                state.take(found)
+            state.line += text.count("\n", place, found.end())
             place = found.end()
-        if statement.text or open_ones:
-            where = statement.where or open_ones[-1][0].where
-            raise Wrong(f"{printable(where)}: the statement has no end")
-
-    @staticmethod
-    def _word(statement: Statement, found: re.Match[str]) -> None:
-        quoted = found["quoted"]
-        word = quoted.replace('\\"', '"') if quoted is not None else found[0]
-        statement.words.append(word)
-        statement.text += (" " if statement.text else "") + found[0]
+        if state.statement.text or state.around:
+            raise Wrong(f"{printable(state.statement.where or state.around[-1][0].where)}: the statement has no end")
 
     def _end(self, statement: Statement, into: list[Statement], outer: Statement | None, inside: int) -> None:
         """Takes a statement in, or the files that it includes."""
