@@ -193,9 +193,9 @@ class Office:  # pylint: disable=too-many-instance-attributes
         """The reply to GET /zones/ZONE/PARTS, if it has no more than so many octets."""
         return self._ask("GET", ("zones", zone, *parts), None, most)
 
-    def list_records(self, zone: str, within: str | None = None) -> list[str]:
+    def list_records(self, zone: str, within: str | None = None, most: int = LONGEST) -> list[str]:
         """The record lines that the caller may list, all or within a name; NotGiven if the zone is not there."""
-        reply = _given(self.get(zone, "records", *([] if within is None else [within])))
+        reply = _given(self.get(zone, "records", *([] if within is None else [within]), most=most))
         return _texts(reply, reply.field("records", list))
 
     def changes(self, zone: str, first: int, most: int = LONGEST) -> list[Change]:

@@ -13,7 +13,7 @@ import dns.rcode
 import dns.rdataclass
 import dns.rdatatype
 
-from office_asking import NoReply, NotGiven, Office, Reply, TooLong, identifier_of, printable
+from office_asking import LONG, NoReply, NotGiven, Office, Reply, TooLong, identifier_of, printable
 
 from . import message as messages
 from . import updating, zones
@@ -24,6 +24,7 @@ from .settings import Settings
 from .zones import NotSeen, NotTransferred, Zone
 
 STRANGERS_LINES = 20  # lines of the log a second on messages without a right signature
+SHORT = 400  # octets of an answer over UDP, to which the signature comes
 TRANSFERS, OF_KEY = 8, 2  # at once, and of a key
 CODES = {name: dns.rcode.from_text(name) for name in (
     "NOERROR", "FORMERR", "SERVFAIL", "NXDOMAIN", "REFUSED", "YXDOMAIN", "YXRRSET", "NXRRSET", "NOTAUTH", "NOTZONE")}
@@ -207,6 +208,8 @@ class Gateway:  # pylint: disable=too-many-instance-attributes
     def _query(self, message: Message, signed: Signed, peer: Peer, name: dns.name.Name,  # pylint: disable=too-many-arguments
                of_zone: tuple[int, int]) -> Verdict:
         kind, group = of_zone
+        if self.settings.answer_sets and kind in updating.KINDS and kind != dns.rdatatype.SOA and group == dns.rdataclass.IN:
+            return self._set(message, signed, peer, name.canonicalize())
         if kind not in (dns.rdatatype.SOA, dns.rdatatype.AXFR, dns.rdatatype.IXFR) or group != dns.rdataclass.IN:
             return Verdict(dns.rcode.REFUSED, "only SOA, AXFR and IXFR are answered")
         zone = self.zones.get(self.zone_of(name, kind == dns.rdatatype.SOA))
@@ -221,6 +224,18 @@ class Gateway:  # pylint: disable=too-many-instance-attributes
         if not peer.over_tcp:
             raise Malformed("AXFR over UDP")
         return self._transfer(message, signed, zone, caller)
+
+    def _set(self, message: Message, signed: Signed, peer: Peer, name: dns.name.Name) -> Verdict:
+        """The RRset that is asked for, as far as the caller may list it."""
+        zone, text = self.zone_of(name, True), str(name.to_text())
+        if zone == dns.name.root:
+            return Verdict(dns.rcode.NOTAUTH, "not a zone of the gateway")
+        wanted = text, updating.KINDS[messages.first_name(message)[1]]
+        found = self.office.as_caller(signed.key.caller).list_records(zone.to_text(), text, LONG)
+        wire = zones.set_answer(message, [line for line in found if (zones.fields(line)[0], zones.fields(line)[2]) == wanted])
+        if not peer.over_tcp and len(wire) > SHORT:
+            wire = messages.plain_answer(message, dns.rcode.NOERROR, dns.flags.TC)
+        return Verdict(dns.rcode.NOERROR, "", [messages.sign(wire, signed)[0]])
 
     def _transfer(self, message: Message, signed: Signed, zone: Zone, caller: Office) -> Verdict:
         """The messages of a transfer, of which few are made at once, however slowly the peers take them."""

@@ -58,6 +58,7 @@ class Settings:  # pylint: disable=too-many-instance-attributes
     reader: str | None = None
     find_zone: bool = False
     answer_soa: bool = False
+    answer_sets: bool = False
     partial_transfers: bool = False
     dhcid_as_txt: bool = False
     narrow_deletes: bool = False

@@ -239,6 +239,14 @@ def soa_answer(asked: Message, line: str) -> bytes:
     return _finished(renderer)
 
 
+def set_answer(asked: Message, lines: Iterable[str]) -> bytes:
+    """The answer to a question for an RRset: these records."""
+    renderer = _begun(asked, True)
+    for line in lines:
+        add(renderer, dns.renderer.ANSWER, line)
+    return _finished(renderer)
+
+
 def without_serial(line: str) -> str:
     """The line of an SOA with serial 0, for a caller that may not see that others changed something."""
     owner, ttl, kind, data = fields(line)

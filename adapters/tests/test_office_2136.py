@@ -77,9 +77,12 @@ class Office:  # pylint: disable=too-many-instance-attributes
         within = name.endswith("physics.example.org.") and kind in ("A", "TXT") and action in ("list", "delete")
         return Right(within or (self.caller == "reader" and action == "list"), "r1")
 
-    def list_records(self, _: str) -> list[str]:
-        """All records for the reader."""
-        return list(self.records) if self.caller == "reader" else []
+    def list_records(self, _: str, within: str | None = None, most: int = 1 << 30) -> list[str]:
+        """All records for the reader, or those at a name or below it."""
+        found = [line for line in self.records if within is None or line.split(" ")[0].endswith(within)]
+        if sum(map(len, found)) > most:
+            raise TooLong
+        return found if self.caller == "reader" else []
 
     def changes(self, _: str, first: int, most: int = 1 << 30) -> list[Change]:
         """The changes from a number on."""
@@ -360,6 +363,22 @@ class Reading(Case):
         self.assertTrue(dns.message.from_wire(udp, ignore_trailing=True, raise_on_truncation=False).flags & dns.flags.TC)
         self.assertEqual(len(udp), len(plain))
         self.assertEqual(dns.message.from_wire(tcp).answer[0].to_text(), SOA.format(5))
+
+    def test_sets(self) -> None:
+        """An RRset for who may list it, where that is wanted; a long one over TCP only."""
+        self.begin("answer-sets = true\n")
+        self.office.records += ["a.example.org. 60 IN TXT \"x\"", "b.a.example.org. 60 IN A 192.0.2.2"]
+        self.assertEqual([line.lower() for line in self.records(query("A", name="A.example.org."))], ["a.example.org. 60 in a 192.0.2.1"])
+        self.assertEqual(self.records(query("AAAA", name="a.example.org.")), [])
+        self.assertEqual(self.records(query("A", "phys.", "a.example.org.")), [])
+        for kind, name, wanted in ("A", "example.net.", "NOTAUTH"), ("CAA", "a.example.org.", "REFUSED"), ("ANY", "a.example.org.", "REFUSED"):
+            self.assertEqual(self.code(query(kind, name=name).to_wire()), wanted)
+        self.office.records += [f"a.example.org. 60 IN TXT \"{number} {'x' * 200}\"" for number in range(9)]
+        asked = query("TXT", name="a.example.org.")
+        udp = self.answer(asked.to_wire(), UDP)[0]
+        self.assertEqual((bool(udp[2] & 2), len(udp) < 512, len(self.records(asked))), (True, True, 10))
+        self.office.records += [f"c.a.example.org. 60 IN TXT \"{number} {'x' * 200}\"" for number in range(400)]
+        self.assertEqual(self.code(query("A", name="a.example.org.").to_wire()), "SERVFAIL")
 
     def test_whole_transfer(self) -> None:
         """All records between two SOA, in as many messages as it takes."""
