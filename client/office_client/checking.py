@@ -35,7 +35,8 @@ class Foreseen:
 
     def reason(self) -> str:
         """Why nothing changes, in words."""
-        found = dict.fromkeys(f"{part.name} {part.kind or ''}".strip() + f": {why}" for part, why in zip(self.update.operations, self.reasons))
+        pairs = zip(self.update.operations, self.reasons)
+        found = dict.fromkeys(f"{part.name} {part.kind or ''}".strip() + f": {why}" for part, why in pairs)
         first = list(found)[:3]
         return "; ".join(first) + ("; .." if len(found) > len(first) else "")
 
@@ -119,7 +120,8 @@ def tell_findings(session: Session, found: list[Finding]) -> None:
     stopping = [one for one in found if one.stops() or session.options.strict]
     if stopping and not session.options.dry_run:
         first = stopping[0]
-        why = "name servers do not load the zone for it, which stops it for everybody" if first.stops() else "it is doubtful, and --strict refuses that"
+        why = "name servers do not load the zone for it, which stops it for everybody" if first.stops() else \
+            "it is doubtful, and --strict refuses that"
         more = f" (and {len(stopping) - 1} more)" if len(stopping) > 1 else ""
         raise Refused(f"not sent: {first.text()}: {why}{more}; --anyway sends it")
     for one in found:

@@ -130,7 +130,7 @@ def run_list(session: Session, words: list[str]) -> int:
     return status
 
 
-def run_file(session: Session, _: list[str]) -> int:
+def run_file(session: Session, _words: list[str]) -> int:
     """Prints the records as a master file."""
     reply = session.server.get("file", "zones", session.needed_zone(), "file")
     if reply.status != 200:
@@ -158,14 +158,14 @@ def delegation_lines(fields: dict[str, Any]) -> list[str]:
     return [f"{one['child']} NS {server['name']} {server['glue']}" for one in fields["delegations"] for server in one["servers"]]
 
 
-def run_delegations(session: Session, _: list[str]) -> int:
+def run_delegations(session: Session, _words: list[str]) -> int:
     """Prints the delegations of the zone."""
     return answer(session, session.server.get("delegations", "zones", session.needed_zone(), "delegations"), delegation_lines)
 
 
 # Updates that wait for a reply
 
-def run_pending(session: Session, _: list[str]) -> int:
+def run_pending(session: Session, _words: list[str]) -> int:
     """Lists the updates that wait for a reply."""
     session.report["pending"] = []
     for _, kept in pending.waiting():

@@ -13,6 +13,7 @@ UNITS = {"w": 604800, "d": 86400, "h": 3600, "m": 60, "s": 1}
 NUMBERS = {"Number U8": 255, "Number U16": 65535, "Number U32": 4294967295}
 KINDS = {"Ipv4": "address", "Ipv6": "address", "Name": "name", "Strings": "string", "Digest": "digest"}
 LONGEST_DATA, LONGEST_STRING = 65535, 255
+LONGEST_NAME = 1004  # characters of a name of which each octet is an escape
 
 NameReader = Callable[[str], str]  # gives the name that a text of octets writes
 
@@ -38,6 +39,8 @@ class Record(NamedTuple):
 def record_of(line: str) -> Record:
     """The record of a line; ValueError if it is not one."""
     name, ttl, _, kind, data = line.split(" ", 4)
+    if len(name) > LONGEST_NAME or kind not in TYPES:
+        raise ValueError("a name that is too long, or another type")
     return Record(name, int(ttl), kind, data)
 
 
@@ -103,8 +106,8 @@ def ipv6(word: str) -> str:
         packed = b""
     if not packed:
         raise Bad(f"{names.shown(word)} is not an IPv6 address, as 2001:db8::1")
-    groups = [f"{packed[at] << 8 | packed[at + 1]:x}" for at in range(0, 16, 2)]
-    runs = [(next((end for end in range(at, 8) if groups[end] != "0"), 8) - at, at) for at in range(8)]
+    groups = [f"{packed[place] << 8 | packed[place + 1]:x}" for place in range(0, 16, 2)]
+    runs = [(next((end for end in range(place, 8) if groups[end] != "0"), 8) - place, place) for place in range(8)]
     length, start = max(runs, key=lambda run: (run[0], -run[1]))
     if length < 2:
         return ":".join(groups)
@@ -113,13 +116,13 @@ def ipv6(word: str) -> str:
 
 def unescaped(text: str) -> bytes:
     """The octets of a character-string, whose escapes are read."""
-    found, at = bytearray(), 0
+    found, place = bytearray(), 0
     for symbol in names.SYMBOL.finditer(text):
-        if symbol.start() != at or symbol[1] and int(symbol[1]) > 255:
+        if symbol.start() != place or symbol[1] and int(symbol[1]) > 255:
             break
-        at = symbol.end()
+        place = symbol.end()
         found.append(int(symbol[1]) if symbol[1] else ord(symbol[2] or symbol[3]))
-    if at != len(text):
+    if place != len(text):
         raise Bad(f"{names.shown(text)} has a bad escape: write \\X, or \\DDD up to 255")
     if len(found) > LONGEST_STRING:
         raise Bad(f"a string has {len(found)} octets, and may have {LONGEST_STRING}: write several")
@@ -223,14 +226,14 @@ LINE_ITEM = re.compile(r'[ \t\r\n]*(?:"((?:[^"\\]|\\.)*)"|((?:[^\s\\"]|\\.)(?:[^
 
 def line_items(text: str) -> list[Item]:
     """The items of a line as nsupdate reads them: `;`, `(` and `)` are octets as others. Escapes stay as they are."""
-    found, at = [], 0
+    found, place = [], 0
     text = text.strip(" \t\r\n")
-    while at < len(text):
-        match = LINE_ITEM.match(text, at)
+    while place < len(text):
+        match = LINE_ITEM.match(text, place)
         if not match:
             raise Bad(f"a quote that is not closed, or a backslash at the end, in {names.shown(text)}")
         found.append(Item(match[1] if match[2] is None else match[2], match[2] is None))
-        at = match.end()
+        place = match.end()
     return found
 
 

@@ -27,10 +27,12 @@ COMMANDS = {
     "list": Command("[NAME]", "the records you may list, or those within a name",
                     "With --strict it is status 3 if there is none."),
     "file": Command("", "the same records as a master file", "Edit it, and see office diff and office import."),
-    "delegations": Command("", "the delegations of the zone", "After the server comes whether its address is listed, unlisted or outside."),
+    "delegations": Command("", "the delegations of the zone",
+                           "After a server comes whether its address is listed, unlisted or outside."),
     "changes": Command("[FROM]", "the changes you may see, from a number on", "Record by record; office log says them in words."),
     "log": Command("[NAME]", "the same changes in words, or those at a name and below it",
-                   "An arrow is between what went and what came. --last N says how many changes are printed; office undo takes one back."),
+                   "An arrow is between what went and what came. --last N says how many changes are printed; office undo takes one "
+                   "back."),
     "rights": Command("NAME TYPE ACTION", "whether you may list, check, add, delete or delegate records",
                       "It prints the rule that decides, and is status 0 if it grants and 1 if it denies."),
     "add": Command("NAME TTL TYPE DATA...", "adds a record",
@@ -42,7 +44,8 @@ COMMANDS = {
     "delegate": Command("CHILD TTL SERVER[=ADDRESS,...]...", "hands a name and all below it to servers",
                         "A server within the child needs an address. It replaces the servers there are; a DS stays."),
     "diff": Command("[OLD] FILE", "what leads from the zone, as you may list it, to a master file",
-                    "Item lines, as of zoneoffice diff, and nothing is sent. Between two files it is what office import --since OLD FILE sends."),
+                    "Item lines, as of zoneoffice diff, and nothing is sent. Between two files it is what office import --since "
+                    "OLD FILE sends."),
     "import": Command("FILE", "adds the records of a master file or of a piece of one",
                       "It is guarded, and sent in as many updates as it needs; killed, the same command goes on where it was. A set that is "
                       "there with other records is refused, or replaced with --replace. --since OLD sends the difference between two "

@@ -62,8 +62,9 @@ def told(key: Set, gone: list[Record], come: list[Record]) -> str:
     before, after = [one.data for one in gone], [one.data for one in come]
     lost, new = [one for one in before if one not in after], [one for one in after if one not in before]
     ttl = f", TTL {gone[0].ttl} -> {come[0].ttl}" if gone and come and gone[0].ttl != come[0].ttl else ""
-    what = f"{' '.join(lost)} -> {' '.join(new)}" if lost and new else f"+ {' '.join(new)}" if new else f"- {' '.join(lost)}" if lost else ""
-    return f"{both(name)} {kind} {what}{ttl}".replace(" , ", ", ")
+    arrow = "->" if lost and new else "+" if new else "-" if lost else ""
+    what = " ".join([both(name), kind, *(lost if arrow == "->" else []), arrow, *(new or lost)])
+    return what.rstrip() + ttl
 
 
 def run_log(session: Session, words: list[str]) -> int:

@@ -37,29 +37,31 @@ def beside_alias(old: Zone, name: str, kind: str) -> str | None:
     return None
 
 
+def sets_of(file: File) -> dict[tuple[str, str], tuple[list[Record], int]]:
+    """The sets of a file, each with the line of its first record."""
+    found: dict[tuple[str, str], tuple[list[Record], int]] = {}
+    for record, line in file.lined():
+        found.setdefault((record.name, record.kind), ([], line))[0].append(record)
+    return found
+
+
 def with_file(session: Session, old: Zone, file: File) -> Zone:
     """The zone with the records of a file. A set that is there with other records is a conflict, or is replaced with --replace."""
-    new = old.copy()
-    lines: dict[tuple[str, str], int] = {}
-    wanted: dict[tuple[str, str], list[Record]] = {}
-    for record, line in file.lined():
-        wanted.setdefault((record.name, record.kind), []).append(record)
-        lines.setdefault((record.name, record.kind), line)
-    wrong = []
-    for (name, kind), records in wanted.items():
+    new, wrong = old.copy(), []
+    for (name, kind), (records, line) in sets_of(file).items():
         there = old.set_of(name, kind)
         why = beside_alias(old, name, kind)
         if there and not session.options.replace:
             why = why or conflict(kind, there, records)
         if why:
-            wrong.append(f"line {lines[name, kind]}: {name} {kind}: {why}")
+            wrong.append(f"  line {line}: {name} {kind}: {why}")
         elif kind != "SOA" or session.options.replace:
             node = [one for one in new.at(name) if one.kind != kind] + records
             new.put(name, sorted(node, key=zone.local_order))
     if wrong:
         more = [f"  and {len(wrong) - 20} more"] if len(wrong) > 20 else []
-        raise Refused("not sent: these sets are there with other records; --replace puts those of the file in their place\n"
-                      + "\n".join([*(f"  {one}" for one in wrong[:20]), *more]))
+        raise Refused("\n".join(["not sent: these sets are there with other records; --replace puts those of the file in their place",
+                                 *wrong[:20], *more]))
     return new
 
 
@@ -220,4 +222,3 @@ def run_diff(session: Session, words: list[str]) -> int:
     for part in parts:
         session.print(part.line())
     return 3 if session.options.strict and not parts else 0
-

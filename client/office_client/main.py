@@ -1,7 +1,9 @@
-"""The client's way in: words, options, and the status."""
+"""The client's way in: words, options, and the status. Modules that a command does not need are not loaded for it."""
+# pylint: disable=import-outside-toplevel
 
 import sys
 from collections.abc import Callable
+from typing import Any
 
 from . import helping, options
 from .tables import VERSION
@@ -11,7 +13,7 @@ from .telling import Bad, Lost, Refused, clean, leave_pipe, say
 def asked(arguments: list[str]) -> int | None:
     """Answers what asks for no office: help, the version and completions."""
     if arguments[:1] == ["complete"]:
-        from . import completing  # pylint: disable=import-outside-toplevel
+        from . import completing
         completing.complete(arguments[1:])
         return 0
     given, words = options.read(arguments)
@@ -21,7 +23,7 @@ def asked(arguments: list[str]) -> int | None:
     if given.help or words[:1] == ["help"]:
         return print_help(words[1:] if words[:1] == ["help"] else words)
     if words[:1] == ["completion"]:
-        from . import completing  # pylint: disable=import-outside-toplevel
+        from . import completing
         if len(words) != 2 or words[1] not in completing.SHELLS:
             raise Bad(f"usage: {helping.usage('completion')}: bash or zsh")
         print(completing.SHELLS[words[1]], end="")
@@ -65,16 +67,15 @@ def run(arguments: list[str]) -> int:
         return status
     given, words = options.read(arguments)
     command, rest = command_of(words, given)
-    # pylint: disable=import-outside-toplevel
     from .commands import RUN
     from .session import Session
     session = Session(given, command)
     return session.finish(reported(session.report, lambda: RUN[command](session, rest)))
 
 
-def reported(report: dict[str, object], work: Callable[[], int]) -> int:
+def reported(report: dict[str, Any], work: Callable[[], int]) -> int:
     """The status of some work, whose failure is said, and kept for the report."""
-    fields: dict[str, object] = {}
+    fields: dict[str, Any] = {}
     try:
         return work()
     except BrokenPipeError:

@@ -23,15 +23,15 @@ class Entry(NamedTuple):
 def entries(text: str) -> Iterator[Entry]:
     """The entries of a text that are not blank."""
     items: list[Item] = []
-    line, first, depth, indented, at = 1, 1, 0, text[:1] in (" ", "\t", "\r"), 0
+    line, first, depth, indented, place = 1, 1, 0, text[:1] in (" ", "\t", "\r"), 0
     for found in TOKEN.finditer(text):
-        if found.start() != at:
+        if found.start() != place:
             break
-        at = found.end()
+        place = found.end()
         if found[1] and not depth:
             if items:
                 yield Entry(items, first, indented)
-            items, indented = [], text[at:at + 1] in (" ", "\t", "\r")
+            items, indented = [], text[place:place + 1] in (" ", "\t", "\r")
         elif found[2]:
             depth += 1 if found[2] == "(" else -1
             if depth < 0:
@@ -40,7 +40,7 @@ def entries(text: str) -> Iterator[Entry]:
             first = line if not items else first
             items.append(Item(found[3] if found[4] is None else found[4], found[4] is None))
         line += found[0].count("\n")
-    if at != len(text):
+    if place != len(text):
         raise Bad(f"line {line}: a quote is not closed, or a backslash is at the end")
     if depth:
         raise Bad(f"line {first}: a parenthesis is not closed")
@@ -48,7 +48,7 @@ def entries(text: str) -> Iterator[Entry]:
         yield Entry(items, first, indented)
 
 
-class File:
+class File:  # pylint: disable=too-many-instance-attributes
     """The records of a master file of a zone, and the line of each; and the names that were perhaps meant otherwise."""
 
     def __init__(self, origin: str, text: str) -> None:
@@ -174,4 +174,3 @@ def read(path: str, origin: str) -> File:
         return File(origin, octets.decode("latin-1"))
     except Bad as error:
         raise Bad(f"{path}: {error}; nothing was sent") from None
-

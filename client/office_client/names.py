@@ -98,16 +98,16 @@ def split(text: str) -> tuple[list[bytes], bool]:
         text = with_a_labels(text)
     if text == ".":
         return [], True
-    labels, at = [bytearray()], 0
+    labels, place = [bytearray()], 0
     for found in SYMBOL.finditer(text):
-        if found.start() != at or found[1] and int(found[1]) > 255:
+        if found.start() != place or found[1] and int(found[1]) > 255:
             break
-        at = found.end()
+        place = found.end()
         if found[3] == ".":
             labels.append(bytearray())
         else:
             labels[-1].append(int(found[1]) if found[1] else ord(found[2] or found[3]))
-    if at != len(text):
+    if place != len(text):
         raise Bad(f"{shown(text)} has a bad escape: write \\X, or \\DDD up to 255")
     is_absolute = not labels[-1]
     if is_absolute:
@@ -173,7 +173,7 @@ def read(text: str, zone: str | None) -> Reading:
 
 def is_within(name: str, origin: str) -> bool:
     """Whether a name is an origin or below it. A dot with a backslash before it divides no labels."""
-    if name == origin or origin == ".":
+    if origin in (name, "."):
         return True
     rest = name.removesuffix("." + origin)
     return rest != name and (len(rest) - len(rest.rstrip("\\"))) % 2 == 0
@@ -187,10 +187,10 @@ def parent(name: str) -> str:
 def above(name: str, origin: str) -> list[str]:
     """The names above a name and below the origin, the nearest first."""
     found = []
-    at = parent(name)
-    while at != origin and is_within(at, origin) and at != ".":
-        found.append(at)
-        at = parent(at)
+    place = parent(name)
+    while place != origin and is_within(place, origin) and place != ".":
+        found.append(place)
+        place = parent(place)
     return found
 
 

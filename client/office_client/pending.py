@@ -30,7 +30,7 @@ class Kept:  # pylint: disable=too-few-public-methods
         self.id: str = fields["id"]  # pylint: disable=invalid-name
         self.url: str = fields["url"]
         self.who: str = fields["who"]
-        self.requests: list[Request] = [(target, body) for target, body in fields["requests"]]
+        self.requests: list[Request] = list(map(tuple, fields["requests"]))
         self.done = done
 
 
@@ -73,7 +73,8 @@ class Pending:
     def locked(self) -> Any:
         """The file, once no other process has it; it is the one at the path then."""
         while True:
-            file = open(os.open(self.path, os.O_RDWR | os.O_CREAT | os.O_NOFOLLOW | os.O_CLOEXEC, 0o600), "r+", encoding="utf-8")
+            number = os.open(self.path, os.O_RDWR | os.O_CREAT | os.O_NOFOLLOW | os.O_CLOEXEC, 0o600)
+            file = open(number, "r+", encoding="utf-8")  # pylint: disable=consider-using-with
             fcntl.flock(file, fcntl.LOCK_EX)
             try:
                 if os.path.samestat(os.fstat(file.fileno()), os.stat(self.path)):

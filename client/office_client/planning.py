@@ -86,14 +86,14 @@ def plan(session: Session, updates: list[Update]) -> int:
     for origin in dict.fromkeys(update.origin() for update in updates):
         mine = [update for update in updates if update.zone == origin]
         listing, foreseen = checking.check(session, mine)
-        at = listing.zone
+        place = listing.zone
         for number, one in enumerate(foreseen, 1):
             session.print(f"# update {number} of {len(foreseen)} of {origin}")
-            for item in plan_update(session, rights, at, one):
+            for item in plan_update(session, rights, place, one):
                 marks.append(item["mark"])
                 session.report.setdefault("items", []).append({"update": number, "zone": origin, **item})
                 session.print(f"{item['mark']:<7} {item['item']}  # {item['why']}")
-            at, _ = checking.foresee(at, [one.update])
+            place, _ = checking.foresee(place, [one.update])
     if rights.is_sample:
         session.note("of the rights one name was asked for all that have the same name above")
     return status_of(session, marks)

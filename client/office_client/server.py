@@ -271,12 +271,12 @@ class Server:  # pylint: disable=too-many-instance-attributes
 
     def zone_of(self, name: str) -> str:
         """The zone that has a name: the nearest one at or above it."""
-        at = name
-        while at != ".":
-            reply = self.get("records", "zones", at, "records", name)
+        place = name
+        while place != ".":
+            reply = self.get("records", "zones", place, "records", name)
             if reply.status != 404:
-                return at
-            at = names.parent(at)
+                return place
+            place = names.parent(place)
         raise Bad(f"the office has no zone of {name}")
 
     def may(self, name: str, kind: str, action: str) -> tuple[bool, str]:

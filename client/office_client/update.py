@@ -217,9 +217,9 @@ def divided(update: Update) -> list[Update]:
     if sum(part.word == "add" and part.kind == "SOA" for part in update.operations) > 1:
         raise Bad("two operations add an SOA")
     parts = parts_of(update.origin(), [Group(update.prerequisites), *(Group([], [part]) for part in update.operations)])
-    at = 0
+    place = 0
     for part in parts:
-        part.sources = {"prerequisites": list(update.sources["prerequisites"]) if not at else [],
-                        "operations": update.sources["operations"][at:at + len(part.operations)]}
-        at += len(part.operations)
+        part.sources = {"prerequisites": list(update.sources["prerequisites"]) if not place else [],
+                        "operations": update.sources["operations"][place:place + len(part.operations)]}
+        place += len(part.operations)
     return parts

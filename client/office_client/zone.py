@@ -55,12 +55,12 @@ class Zone:
         if self.existing is None:
             self.existing = set()
             for owner in self.nodes:
-                at = owner
-                while at not in self.existing:
-                    self.existing.add(at)
-                    if at in (self.origin, "."):
+                place = owner
+                while place not in self.existing:
+                    self.existing.add(place)
+                    if place in (self.origin, "."):
                         break
-                    at = names.parent(at)
+                    place = names.parent(place)
         return name in self.existing
 
     def copy(self) -> "Zone":
