@@ -17,14 +17,14 @@ LISTS = {
         ("docs/openapi.yaml", "types of lines", lists.types_of_lines),
         ("web/page.js", "types", lists.types_of_page),
         ("web/page.js", "fields", lists.fields_of_page),
-        ("client/office", "types", lists.types_of_client),
+        ("client/office_client/tables.py", "types", lists.types_of_client),
         ("adapters/office_records.py", "types", lists.types_of_adapters),
     ],
     "actions": [
         ("docs/policy.md", "actions", lists.actions_listed),
         ("docs/policy.md", "what actions allow", lists.actions_of_policy),
         ("docs/openapi.yaml", "actions", lists.actions_of_openapi),
-        ("client/office", "actions", lists.actions_of_client),
+        ("client/office_client/tables.py", "actions", lists.actions_of_client),
     ],
     "commands": [
         ("docs/commands.md", "arguments", lists.arguments_of_commands),

@@ -55,8 +55,8 @@ def fields_of_page(_):
 
 
 def types_of_client(_):
-    names = {one.name: tuple(at for at, kind in enumerate(one.fields) if kind == "Name") for one in sources.types()}
-    return "TYPES = " + str(names).replace("'", '"')
+    rows = [f"    {one.name!r}: {(one.number, tuple(one.fields))}," for one in sources.types()]
+    return "\n".join(["TYPES = {", *rows, "}"]).replace("'", '"')
 
 
 def types_of_adapters(_):
