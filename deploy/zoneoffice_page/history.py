@@ -101,6 +101,7 @@ class History:  # pylint: disable=too-many-instance-attributes
         self.entries: list[Entry] = []
         self.pending: list[Pending] = []
         self.children: dict[str, Any] | None = None
+        self.reached = 0.0  # when the last update came of which the change is known
         self.is_new = True
 
     def load(self) -> None:
@@ -114,7 +115,7 @@ class History:  # pylint: disable=too-many-instance-attributes
                 self.serial, self.moved = int(kept["serial"]), int(kept["moved"])
                 self.entries = [Entry(one[0], one[1], kept["sets"][one[2]], Made(*one[3]) if one[3] else None) for one in kept["entries"]]
                 self.pending = [Pending(*one) for one in kept["pending"]]
-                self.children, self.is_new = kept["children"], False
+                self.children, self.reached, self.is_new = kept["children"], float(kept["reached"]), False
         except (ValueError, LookupError, TypeError, RecursionError):
             self.forget()
 
@@ -125,7 +126,7 @@ class History:  # pylint: disable=too-many-instance-attributes
                     list(dataclasses.astuple(one.made)) if one.made else None] for one in self.entries]
         kept = {"zone": self.zone, "number": self.number, "length": self.length, "compared": self.compared, "policy": self.policy,
                 "serial": self.serial, "moved": self.moved, "counts": self.counts, "sets": [list(one) for one in sets], "entries": entries,
-                "pending": [list(dataclasses.astuple(one)) for one in self.pending], "children": self.children}
+                "pending": [list(dataclasses.astuple(one)) for one in self.pending], "children": self.children, "reached": self.reached}
         self.folder.put(f"{self.name}.json", json.dumps(kept, separators=(",", ":")).encode(), 0o600)
 
     # The record sets of all changes, a line a change: OWNER TYPE OWNER TYPE ..

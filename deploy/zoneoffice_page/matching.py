@@ -12,6 +12,7 @@ from .trail import Operation, Update
 
 SLACK = 20  # updates by which the trail's order may differ from that of the changes
 MOST = 200  # updates that are looked at for a change
+EARLY_SECONDS = 2.0  # by which an update may be in the trail before one whose change came first
 EARLY = 75.0  # seconds that an update without a body may be in the trail before the run that saw its change
 
 Key = tuple[Labels, str]
@@ -115,46 +116,75 @@ class Waiting:
         self.free = set(range(len(updates)))
         self.places: dict[Key, list[int]] = {}
         self.delegating: list[int] = []
-        for at, asked in enumerate(self.asked):
+        for place, asked in enumerate(self.asked):
             for key in {*asked.adds, *asked.deletes} if asked else ():
-                self.places.setdefault(key, []).append(at)
+                self.places.setdefault(key, []).append(place)
             if asked and asked.children:
-                self.delegating.append(at)
+                self.delegating.append(place)
 
-    def last_that_asks(self, change: Seen, place: int) -> int | None:
-        """The last update, about before a place, that asks for a change: with its data, or else for its record sets."""
+    def near(self, change: Seen) -> list[int]:
+        """The free updates that may ask for a change, in order."""
         (name, kind), _ = (change.added + change.removed)[0]
-        places = {*self.places.get((name, kind), ()), *self.places.get((name, ""), ()), *self.delegating}
-        near = sorted((at for at in places & self.free if at < place + SLACK), reverse=True)[:MOST]
-        for exactly in True, False:
-            for at in near:
-                asked = self.asked[at]
-                if asked and asked.explains(change, exactly):
-                    return at
-        return None
+        return sorted({*self.places.get((name, kind), ()), *self.places.get((name, ""), ()), *self.delegating} & self.free)
+
+    def explains(self, place: int, change: Seen, exactly: bool) -> bool:
+        """Whether an update asks for a change."""
+        asked = self.asked[place]
+        return asked is not None and asked.explains(change, exactly)
+
+    def last(self, change: Seen, before: int) -> int | None:
+        """The last update, about before a place, that asks for a change: with its data, or else for its record sets."""
+        near = [place for place in self.near(change) if place < before + SLACK][-MOST:]
+        found = [place for exactly in (True, False) for place in reversed(near) if self.explains(place, change, exactly)][:1]
+        return found[0] if found else None
+
+    def first(self, change: Seen, after: int, last: int) -> int:
+        """The first update after a place and before the last that asks for a change, if the last is not the first."""
+        exactly = self.explains(last, change, True)
+        near = [place for place in self.near(change) if after < place < last][:MOST]
+        return next((place for place in near if self.explains(place, change, exactly)), last)
 
     def last_of_one(self, change: Seen, policy: Policy, origin: Labels) -> int | None:
         """Without bodies: the last update of the only one who may have made a change."""
-        could = [at for at in sorted(self.free) if self.asked[at] is None and self.updates[at].when > change.since - EARLY
-                 and may_make(policy, self.updates[at].caller, origin, change)]
-        who = {(self.updates[at].caller, self.updates[at].person) for at in could}
+        could = [place for place in self.free if self.asked[place] is None and self.updates[place].when > change.since - EARLY
+                 and may_make(policy, self.updates[place].caller, origin, change)]
+        who = {(self.updates[place].caller, self.updates[place].person) for place in could}
         return max(could) if len(who) == 1 else None
 
 
 def find(history: History, updates: list[Update], policy: Policy) -> tuple[dict[int, Made], list[Update]]:
-    """Who made the pending changes of a zone, as far as it is found, and the updates that wait further. The last change is looked at
-    first."""
+    """Who made the pending changes of a zone, as far as it is found, and the updates that wait further. From the last change on, each
+    gets the last update that asks for it; and then, from the first on, the first one after the update of the change before. Where a
+    zone's history is read for the first time, the trail may begin long before, and the last ones stay."""
     known = {(one.made.caller, one.made.id) for one in history.entries if one.made and one.made.id}
-    waiting = Waiting([one for one in updates if (one.caller, one.id) not in known])
-    found: dict[int, Made] = {}
-    place = len(waiting.updates)
-    for pending in reversed(history.pending):
-        change = Seen(pending)
-        at: int | None = waiting.last_that_asks(change, place)
-        if at is None:
-            at = waiting.last_of_one(change, policy, history.origin)
-        if at is not None:
-            found[change.number] = made_by(waiting.updates[at])
-            waiting.free.discard(at)
-            place = min(place, at)
-    return found, [waiting.updates[at] for at in sorted(waiting.free)]
+    waiting = Waiting([one for one in updates if (one.caller, one.id) not in known and one.when >= history.reached - EARLY_SECONDS])
+    changes = [Seen(one) for one in history.pending]
+    places: dict[int, int] = {}
+    before = len(waiting.updates)
+    for change in reversed(changes):
+        place = waiting.last(change, before)
+        if place is None:
+            place = waiting.last_of_one(change, policy, history.origin)
+        if place is not None:
+            places[change.number] = place
+            waiting.free.discard(place)
+            before = min(before, place)
+    if not history.is_new:
+        move_forward(waiting, changes, places)
+    found = {number: made_by(waiting.updates[place]) for number, place in places.items()}
+    history.reached = max([history.reached, *(waiting.updates[place].when for place in places.values())])
+    return found, [waiting.updates[place] for place in sorted(waiting.free)]
+
+
+def move_forward(waiting: Waiting, changes: list[Seen], places: dict[int, int]) -> None:
+    """Gives each change the first update that asks for it, after that of the change before: what asks for the same later has nothing to
+    do."""
+    after = -1
+    for change in changes:
+        last = places.get(change.number)
+        if last is not None and waiting.asked[last] is not None:
+            place = waiting.first(change, after, last)
+            waiting.free.add(last)
+            waiting.free.discard(place)
+            places[change.number] = place
+            after = max(after, place)
