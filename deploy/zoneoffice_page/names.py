@@ -1,0 +1,59 @@
+"""Names, and records as the office prints them."""
+
+import dataclasses
+import re
+
+# made: types
+TYPES = ("A", "NS", "CNAME", "SOA", "PTR", "MX", "TXT", "AAAA", "SRV", "DS")
+# end
+IDENTIFIER = re.compile(r"[A-Za-z0-9._-]{1,64}", re.ASCII)  # a caller
+LINE = re.compile(r"([!-~]*\.) ([0-9]{1,10}) IN ([A-Z0-9]{1,10}) ([ -~]+)", re.ASCII)
+
+Labels = tuple[bytes, ...]
+
+
+def labels(name: str) -> Labels:
+    """The labels of an absolute name (docs/formats.md), from the root down, in lower case; ValueError if it is none."""
+    found: list[bytes] = []
+    label, octets, at = bytearray(), name.encode(), 0
+    if octets == b".":
+        return ()
+    while at < len(octets):
+        if octets[at] == ord("\\") and octets[at + 1:at + 4].isdigit() and at + 3 < len(octets):
+            label.append(int(octets[at + 1:at + 4]))
+            at += 4
+        elif octets[at] == ord("\\"):
+            label += octets[at + 1:at + 2]
+            at += 2
+        elif octets[at] == ord("."):
+            found.append(bytes(label).lower())
+            label.clear()
+            at += 1
+        else:
+            label.append(octets[at])
+            at += 1
+    if label or not found or not all(0 < len(one) < 64 for one in found):
+        raise ValueError(f"{name} is no absolute name")
+    return tuple(reversed(found))
+
+
+def is_within(name: Labels, origin: Labels) -> bool:
+    """Whether a name is an origin, or below it."""
+    return name[:len(origin)] == origin
+
+
+@dataclasses.dataclass(frozen=True)
+class Record:
+    """A record of the office."""
+    name: str
+    ttl: int
+    type: str
+    data: str
+
+
+def record_of(line: str) -> Record:
+    """The record of a line; ValueError if it has none."""
+    found = LINE.fullmatch(line)
+    if not found:
+        raise ValueError("it is not the line of a record")
+    return Record(found[1], int(found[2]), found[3], found[4])
