@@ -7,10 +7,11 @@
 
 import {spawn} from "node:child_process";
 import {writeFileSync} from "node:fs";
+import {get} from "node:http";
 
 const [program, folder, count, seed] = process.argv.slice(2);
 const page = (name) => import(`${folder}/${name}.js`);
-const [{readData, nameField}, {conflictOf, foresee, look, operationsOf, setsOf, updatesOf}, {compareNames, readOwner}, {pointsOf, testPoints, pointKey}, {findings},
+const [{readData, nameField}, {conflictOf, foresee, look, updatesOf}, {compareNames, readOwner}, {pointsOf, testPoints, pointKey}, {findings},
     {lineOf, Zone, readLine}] = await Promise.all(["data", "edits", "names", "points", "rules", "zone"].map(page));
 
 const AT_ONCE = 3;
@@ -92,11 +93,43 @@ const FIELDS = ["test", "op", "name", "ttl", "type", "data"];
 const itemLine = (item) => FIELDS.map((field) => item[field]).filter((value) => value !== undefined).join(" ");
 const zoneText = (records) => records.map((record) => `${lineOf(record)}\n`).join("");
 
+// ---- rights: an office with this policy is asked, which decides as `rights` does and need not start for each question
+
 const asked = new Map();
-async function isGranted(caller, {action, name, type}) {
-    const key = `${caller} ${pointKey({action, name, type})}`;
+let office;
+
+async function startOffice() {
+    const [origin] = ORIGINS;
+    await run(`${origin} 60 IN SOA ns1.${origin} h.${origin} 7 3600 600 86400 60\n${origin} 60 IN NS ns1.${origin}\n`, "import", "--store", `${folder}/store`, "--origin", origin);
+    office = spawn(program, ["serve", "--store", `${folder}/store`, "--policy", policy, "--listen", "127.0.0.1:0", "--longest", "0", "--patience", "0"], {stdio: ["ignore", "pipe", "ignore"]});
+    const said = await new Promise((go) => office.stdout.once("data", (piece) => go(String(piece))));
+    return Number(said.trim().split(":").at(-1));
+}
+
+function askOffice(port, caller, {action, name, type}) {
+    return new Promise((go, fail) => {
+        const path = `/rights/${encodeURIComponent(name)}/${type}/${action}`;
+        get({host: "127.0.0.1", port, path, headers: {"X-Office-Caller": caller}, agent: false}, (reply) => {
+            let text = "";
+            reply.on("data", (piece) => (text += piece));
+            reply.on("end", () => go(JSON.parse(text).granted));
+        }).on("error", fail);
+    });
+}
+
+/** Whether the policy grants a point; some are asked by the command too. */
+function isGranted(caller, point) {
+    const key = `${caller} ${pointKey(point)}`;
     if (!asked.has(key)) {
-        asked.set(key, run("", "rights", "--policy", policy, "--caller", caller, "--", name, type, action).then((said) => said.startsWith("granted ")));
+        asked.set(key, askOffice(port, caller, point).then(async (granted) => {
+            if (asked.size % 100 === 1) {
+                const said = await run("", "rights", "--policy", policy, "--caller", caller, "--", point.name, point.type, point.action);
+                if (said.startsWith("granted ") !== granted) {
+                    differ("what the office and the command say of a right", {caller, point}, granted, said);
+                }
+            }
+            return granted;
+        }));
     }
     return asked.get(key);
 }
@@ -116,41 +149,43 @@ async function firstDenied(caller, {prerequisites, operations}, origin) {
 }
 
 const ended = {};
+const tell = (what, number) => (ended[what] = (ended[what] ?? 0) + number);
 const differ = (what, ...values) => console.log([`differs: ${what}`, ...values.map((value) => JSON.stringify(value))].join("\n    "));
 
-/** What the page says of an edit. Somebody else may have made another one since the records were read. */
-async function judge(caller, seen, zone, edit) {
-    const [update] = updatesOf([edit], seen);
+/** What the page says of an update. Somebody else may have made another one since the records were read. */
+async function judge(caller, seen, zone, edits) {
+    const [update] = updatesOf(edits, seen);
     const denial = await firstDenied(caller, update, zone.origin);
-    const isConflict = conflictOf(look(edit, seen), zone) !== null;
-    const outlook = foresee([edit], zone).outlook;
-    const after = [];
-    outlook.forEach((record) => after.push(record));
+    const isConflict = update.edits.some((edit) => conflictOf(look(edit, seen), zone) !== null);
     const items = [...update.prerequisites, ...update.operations].map(itemLine).join("\n");
     const said = (await run(`${zoneText(zone.records)}--\n${items}\n`, "plan", "--policy", policy, "--caller", caller)).trim().split("\n");
     const wanted = denial ?? (isConflict ? "CONFLICT" : "NOERROR");
     const got = said[0].startsWith("REFUSED") ? said[0].split(" ").slice(0, 3).join(" ") : /XRRSET/.test(said[0]) ? "CONFLICT" : said[0];
-    ended[wanted.split(" ")[0]] = (ended[wanted.split(" ")[0]] ?? 0) + 1;
+    tell(wanted.split(" ")[0], update.edits.length);
+    tell("edits", update.edits.length);
     if (wanted !== got) {
-        differ("what the office answers", {caller, edit, items, seen: seen.records.map(lineOf), zone: zone.records.map(lineOf)}, wanted, said);
-    } else if (got === "NOERROR" && operationsOf(edit, seen).join() === operationsOf(edit, zone).join()) {
-        compareRecords(edit, zone, after, said);
+        differ("what the office answers", {caller, edits, items, seen: seen.records.map(lineOf), zone: zone.records.map(lineOf)}, wanted, said);
+    }
+    const {outlook, lines} = foresee(update.edits, zone);
+    tell("idle", lines.filter(({isIdle}) => isIdle).length);
+    const after = [];
+    outlook.forEach((record) => after.push(record));
+    if (wanted === "NOERROR" && got === wanted) {
+        compareRecords(update.edits, zone, after, said, lines.every(({isIdle}) => isIdle));
     }
     return after;
 }
 
-function compareRecords(edit, zone, after, said) {
-    const lines = new Set(zone.records.map(lineOf));
-    said.slice(1, -1).forEach((line) => (line.startsWith("- ") ? lines.delete(line.slice(2)) : lines.add(line.slice(2))));
-    const [wanted, got] = [[...lines].sort(), after.map(lineOf).sort()];
+function compareRecords(edits, zone, after, said, isIdle) {
+    const records = new Set(zone.records.map(lineOf));
+    said.slice(1, -1).forEach((line) => (line.startsWith("- ") ? records.delete(line.slice(2)) : records.add(line.slice(2))));
+    const [wanted, got] = [[...records].sort(), after.map(lineOf).sort()];
     if (wanted.join("\n") !== got.join("\n")) {
-        differ("what an edit makes", {edit, zone: zone.records.map(lineOf)}, wanted.filter((line) => !got.includes(line)), got.filter((line) => !wanted.includes(line)));
+        differ("what edits make", {edits, zone: zone.records.map(lineOf)}, wanted.filter((line) => !got.includes(line)), got.filter((line) => !wanted.includes(line)));
     }
-    const isIdle = foresee([edit], zone).lines[0].isIdle;
     if (isIdle && said.length > 2) {
-        differ("an edit that the page says does nothing", {edit, zone: zone.records.map(lineOf)}, said);
+        differ("edits that the page says do nothing", {edits, zone: zone.records.map(lineOf)}, said);
     }
-    ended.idle = (ended.idle ?? 0) + Number(isIdle);
 }
 
 async function compareFindings(origin, records) {
@@ -158,7 +193,7 @@ async function compareFindings(origin, records) {
     const zone = new Zone(origin, ordered);
     const found = findings(foresee([], zone).outlook).map(({rule, record}) => `${rule} ${lineOf(record)}`);
     const said = (await run(zoneText(ordered), "check", "zone", "--origin", origin)).trim().split("\n").filter(Boolean);
-    ended.findings = (ended.findings ?? 0) + said.length;
+    tell("findings", said.length);
     if (found.sort().join("\n") !== said.sort().join("\n")) {
         differ("what is at fault in a zone", ordered.map(lineOf), found.filter((line) => !said.includes(line)), said.filter((line) => !found.includes(line)));
     }
@@ -180,26 +215,29 @@ async function compareReading() {
             differ("what is read", record, lineOf(read), said.size);
         }
     }
-    ended.read = typed.length;
+    tell("read", typed.length);
 }
 
-async function judgeOne() {
+/** An update of some edits of a random zone, of which one in four was changed by somebody else meanwhile. */
+async function judgeSome() {
     const origin = ORIGINS[Number(chance(5) === 0)];
     const seen = someZone(origin);
-    const edit = someEdit(seen);
-    const zone = chance(4) ? seen : new Zone(origin, seen.records.filter((record) => ["SOA", "NS"].includes(record.type) || chance(4)));
-    const caller = chance(2) ? "admin" : one(CALLERS);
-    if (setsOf(edit).length) {
-        await compareFindings(origin, await judge(caller, seen, zone, edit));
-    }
+    const edits = Array.from({length: 1 + (chance(3) && chance(10))}, (_, at) => ({...someEdit(seen), key: String(at)}));
+    const once = edits.filter(({old}, at) => !old || !edits.slice(0, at).some((edit) => edit.old === old));
+    const soas = once.filter(({now}) => now?.type === "SOA");
+    const judged = once.filter((edit) => !soas.includes(edit) || edit === soas[0]);
+    const zone = chance(4) ? seen : new Zone(origin, seen.records.filter((record) => ["SOA", "NS"].includes(record.type) || chance(8)));
+    await compareFindings(origin, await judge(chance(2) ? "admin" : one(CALLERS), seen, zone, judged));
 }
 
 writeFileSync(policy, process.env.POLICY);
+const port = await startOffice();
 await compareReading();
-let left = Number(count);
 await Promise.all(Array.from({length: AT_ONCE}, async () => {
-    while (left-- > 0) {
-        await judgeOne();
+    while ((ended.edits ?? 0) < Number(count)) {
+        await judgeSome();
     }
 }));
+office.kill();
 console.log(JSON.stringify(ended));
+process.exit(0);

@@ -1,8 +1,9 @@
 // What comes of the changes before they are sent: what the policy decides, what would do nothing, what somebody else changed meanwhile,
 // and what name servers would refuse.
 
+import {ADDRESSES} from "./data.js";
 import {conflictOf, foresee, obstacles, setsOf, updatesOf} from "./edits.js";
-import {denied, askRights, rightOf} from "./office.js";
+import {askRights, denied, rightOf} from "./office.js";
 import {pointsOf} from "./points.js";
 import {findings, stopsZone} from "./rules.js";
 import {state} from "./state.js";
@@ -42,19 +43,17 @@ export function newFaults(outlook, records) {
 const isAbout = ({old, now, drop = []}) => ({record, server}) => [old, now, ...drop].some((one) => one
     && (one.name === record.name || one.name === server || (one.type === "NS" && one.data === record.name)));
 
-/** Other names that have the address already. */
-function sharers({now}, outlook) {
-    if (!now || (now.type !== "A" && now.type !== "AAAA")) {
-        return [];
+/** The names that have the addresses of these edits, by address. */
+function ownersOf(edits, outlook) {
+    const owners = new Map(edits.filter(({now}) => ADDRESSES.includes(now?.type)).map(({now}) => [now.data, []]));
+    if (owners.size) {
+        outlook.forEach(({name, data}) => owners.get(data)?.push(name));
     }
-    const names = [];
-    outlook.forEach((record) => {
-        if (record.data === now.data && record.type === now.type && record.name !== now.name && names.length < 3) {
-            names.push(record.name);
-        }
-    });
-    return names;
+    return owners;
 }
+
+/** Other names that have the address already. */
+const sharers = ({now}, owners) => (now ? owners.get(now.data) ?? [] : []).filter((name) => name !== now.name).slice(0, 3);
 
 export function pointsOfLine({operations}) {
     return [...new Map(operations.flatMap((operation) => pointsOf(operation, state.zone.origin)).map((point) => [JSON.stringify(point), point])).values()];
@@ -67,7 +66,7 @@ export function isGuarded(set) {
     return !state.draft.unguarded.includes(setKey(set)) && rightOf({action: "check", ...set})?.granted !== false;
 }
 
-function judgeLine({edit, operations, isIdle, why}, outlook, faults) {
+function judgeLine({edit, operations, isIdle, why}, outlook, faults, owners) {
     const line = {edit, operations, why, isIdle, conflict: edit.sent ? null : conflictOf(edit, state.zone)};
     line.points = pointsOfLine(line);
     line.denied = denied(line.points);
@@ -75,7 +74,7 @@ function judgeLine({edit, operations, isIdle, why}, outlook, faults) {
     line.obstacles = obstacles(edit, why, outlook);
     line.faults = faults.filter(isAbout(edit));
     line.stops = line.faults.some(stopsZone);
-    line.sharers = sharers(edit, outlook);
+    line.sharers = sharers(edit, owners);
     line.isBlocked = !edit.sent && Boolean(line.conflict || line.denied.length || why);
     return line;
 }
@@ -83,9 +82,13 @@ function judgeLine({edit, operations, isIdle, why}, outlook, faults) {
 /** All changes judged. What the policy decides is asked for, and `rights` is announced when it is known. */
 export function judge() {
     const {edits} = state.draft;
+    if (!state.isRead) {
+        return {lines: [], stops: false};
+    }
     const {outlook, lines} = foresee(edits, state.zone);
-    const faults = edits.length && state.isRead ? newFaults(outlook) : [];
-    const judged = lines.map((line) => judgeLine(line, outlook, faults));
+    const faults = edits.length ? newFaults(outlook) : [];
+    const owners = ownersOf(edits, outlook);
+    const judged = lines.map((line) => judgeLine(line, outlook, faults, owners));
     const blocked = new Set(judged.filter(({isBlocked, edit}) => isBlocked && edit.group).map(({edit}) => edit.group));
     judged.filter(({edit, isBlocked}) => !isBlocked && !edit.sent && blocked.has(edit.group)).forEach((line) => {
         line.isHeld = line.isBlocked = true; // they belong together
@@ -105,5 +108,5 @@ export function judgeOne(edit) {
     const {outlook, lines} = foresee([...others, edit], state.zone);
     const names = [edit.now, edit.old].filter(Boolean).map(({name}) => name);
     const records = [...new Set(names)].flatMap((name) => outlook.at(name));
-    return judgeLine(lines.at(-1), outlook, newFaults(outlook, records));
+    return judgeLine(lines.at(-1), outlook, newFaults(outlook, records), ownersOf([edit], outlook));
 }

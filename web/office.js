@@ -70,10 +70,12 @@ export async function readList(route, field) {
 
 // ---- rights: a few questions at a time, each once
 
+const QUIET = 5000; // milliseconds
 const MOST_AT_ONCE = 2; // the front server takes four requests of a user
 const answers = new Map();
 const line = [];
 let open = 0;
+let quietUntil = 0; // after a question that was not answered
 
 /** What the policy decides: {granted, by}, or undefined while it is not known. */
 export const rightOf = (point) => answers.get(pointKey(point))?.answer;
@@ -84,7 +86,8 @@ export function forgetRights() {
 
 /** Asks what is not known yet of these points, and announces what came. Gives a promise of all their answers. */
 export function askRights(points) {
-    const asked = points.filter(({name}) => name !== ".").map((point) => {
+    const isQuiet = Date.now() < quietUntil;
+    const asked = points.filter((point) => point.name !== "." && (!isQuiet || answers.has(pointKey(point)))).map((point) => {
         const key = pointKey(point);
         if (!answers.has(key)) {
             const entry = {};
@@ -108,9 +111,7 @@ async function work() {
             entry.answer = json;
         } else {
             answers.delete(pointKey(point)); // it is asked again when it is needed again
-            if (status === 429) {
-                await new Promise((wait) => setTimeout(wait, 1000));
-            }
+            quietUntil = Date.now() + QUIET;
         }
         go(entry.answer);
     }

@@ -45,6 +45,7 @@ class Survey {
         this.zone = zone;
         this.cuts = new Set();
         this.servers = new Set();
+        this.delegated = new Map(); // names that were asked for, and whether they are at or below a cut
         zone.forEach(({name, type, data}) => {
             if (type === "NS") {
                 this.servers.add(data);
@@ -55,15 +56,19 @@ class Survey {
         });
     }
 
+    /** Whether a name of the zone is at or below a cut. Names above it are looked up once, since most records have the same. */
     isDelegated(name) {
-        if (this.cuts.size) {
-            for (const above of upwards(name, this.zone.origin)) {
-                if (this.cuts.has(above)) {
-                    return true;
-                }
-            }
+        if (this.cuts.size === 0) {
+            return false;
         }
-        return false;
+        if (this.cuts.has(name)) {
+            return true;
+        }
+        const above = parentOf(name);
+        if (!this.delegated.has(above)) {
+            this.delegated.set(above, above !== this.zone.origin && isWithin(above, this.zone.origin) && this.isDelegated(above));
+        }
+        return this.delegated.get(above);
     }
 
     isOccluded({name, type}) {

@@ -9,7 +9,7 @@ import {showGivenUp, showMade, showRefused} from "./result.js";
 import {announce, state, store, stored} from "./state.js";
 import {clock, t} from "./text.js";
 import {readRecords} from "./reading.js";
-import {look, updatesOf} from "./edits.js";
+import {LARGE, look, setsOf, updatesOf} from "./edits.js";
 import {readLine, Zone} from "./zone.js";
 
 const LONGEST_PAUSE = 30; // seconds between two tries
@@ -37,6 +37,21 @@ function jobOf({edits, prerequisites, operations}, zone, place, count) {
         body: JSON.stringify({id, prerequisites, operations})};
 }
 
+/** Whether a record of a large set is no longer as it was seen: such a set is guarded by its being there, so its records are compared
+ * just before they are sent. */
+async function isStale({lines}) {
+    const isLarge = ({edit, isBlocked}) => !isBlocked && setsOf(edit).some(({name, type}) => state.zone.set(name, type).length > LARGE);
+    const olds = lines.filter(isLarge).flatMap(({edit: {old, drop = []}}) => [old, ...drop]).filter(Boolean);
+    for (const name of new Set(olds.map((record) => record.name))) {
+        const {json} = await request("GET", `${asCaller()}/zones/${part(state.zone.origin)}/records/${part(name)}`);
+        const there = new Zone(state.zone.origin, (json?.records ?? []).map(readLine));
+        if (json?.records && olds.some((record) => record.name === name && !there.find(record))) {
+            return true;
+        }
+    }
+    return false;
+}
+
 /** Sends what can be sent of the draft, in as many updates as it takes, and after them what is to follow in other zones. */
 export async function send(judged) {
     const origin = state.zone.origin;
@@ -51,7 +66,10 @@ export async function send(judged) {
         }
         const reply = await deliver(job);
         if (!reply || reply.status !== 200) {
-            return reply && showRefused(job, reply, made);
+            if (reply) {
+                await showRefused(job, reply, made);
+            }
+            return;
         }
         made.push(job);
     }

@@ -176,6 +176,7 @@ function showNew(test = search($("filter").value)) {
             const made = row(nameCell(now.name), ttlCell(now), cell("type", now.type), cell("data", make("ins", {}, now.data)),
                 cell("do", ...editActions(edit, `${now.name} ${now.type} ${now.data}`)));
             made.className = "touched new";
+            made.querySelectorAll("button").forEach((one) => one.removeAttribute("tabindex"));
             return made;
         })));
     }

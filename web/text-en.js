@@ -99,7 +99,7 @@ export default {
     send: (number) => `Send ${count(number, "change")}`,
     sendSome: (able, all) => `Send ${figure(able)} of ${figure(all)}`,
     sendAllTheSame: "Send it all the same",
-    stopWarning: "Name servers may refuse the whole zone {0} with this, and then nobody's changes go live until it is undone. See the lines marked below Your changes.",
+    stopWarning: "Name servers may refuse the whole zone {0} with this, and then nobody's changes go live until it is undone. The lines are marked above.",
     discard: "Discard all",
     discardAsk: (number) => `Really discard ${count(number, "change")}?`,
     planEmpty: "There is nothing to send.",
