@@ -218,6 +218,43 @@ async function compareReading() {
     tell("read", typed.length);
 }
 
+/** Many edits are sent in updates within the limits, whose guards hold one after the other, and which come to what the edits do. */
+function compareSplit() {
+    const origin = ORIGINS[0];
+    const zone = someZone(origin);
+    for (let at = 0; at < 400; at++) {
+        const record = {name: `h${chance(150)}.${origin}`, ttl: 60, type: "A", data: `192.0.2.${chance(250)}`};
+        if (!zone.find(record)) {
+            zone.push(record);
+        }
+    }
+    const olds = zone.records.filter(({type}) => type === "A").filter(() => chance(2));
+    const edits = [...olds.map((old) => ({old, ...(chance(2) && {now: {...old, data: `192.0.2.${chance(250)}`}})})),
+        ...Array.from({length: 500}, () => ({now: {name: `n${chance(300)}.${origin}`, ttl: 60, type: "A", data: `192.0.2.${chance(250)}`}}))];
+    const updates = updatesOf(edits.map((edit, at) => ({...edit, key: String(at)})), zone);
+    const outlook = foresee([], zone).outlook;
+    for (const {prerequisites, operations} of updates) {
+        const wrong = prerequisites.filter(({test, name, type, data}) => {
+            const there = outlook.set(name, type).map((record) => record.data);
+            return test === "rrset-absent" ? there.length > 0 : test === "rrset-exists" ? there.length === 0 : !there.includes(data);
+        });
+        if (prerequisites.length > 64 || operations.length > 256 || JSON.stringify({prerequisites, operations}).length > 65000 || wrong.length) {
+            differ("an update of many", prerequisites.length, operations.length, wrong);
+        }
+        operations.forEach((operation) => outlook.apply(operation));
+    }
+    outlook.advance();
+    const linesOf = (one) => {
+        const lines = [];
+        one.forEach((record) => lines.push(lineOf(record)));
+        return lines.sort().join("\n");
+    };
+    if (linesOf(outlook) !== linesOf(foresee(edits, zone).outlook)) {
+        differ("what many updates make", updates.length);
+    }
+    tell("updates", updates.length);
+}
+
 /** An update of some edits of a random zone, of which one in four was changed by somebody else meanwhile. */
 async function judgeSome() {
     const origin = ORIGINS[Number(chance(5) === 0)];
@@ -233,6 +270,7 @@ async function judgeSome() {
 writeFileSync(policy, process.env.POLICY);
 const port = await startOffice();
 await compareReading();
+compareSplit();
 await Promise.all(Array.from({length: AT_ONCE}, async () => {
     while ((ended.edits ?? 0) < Number(count)) {
         await judgeSome();

@@ -324,12 +324,12 @@ class Browser:
     def filter(self, text):
         self.write("filter", text)
 
-    def send(self, selector="#draft-send"):
+    def send(self, selector="#draft-send", seconds=90):
         """Sends by the bar, and gives what became of it."""
         self.js("document.getElementById('result').hidden = true")
         self.wait("[...document.querySelectorAll('#draft-send')].some((one) => !one.disabled && one.checkVisibility())", "a button that sends")
         self.press(selector)
-        self.wait("!document.getElementById('result').hidden", "a result", 90)
+        self.wait("!document.getElementById('result').hidden", "a result", seconds)
         return self.js("return document.getElementById('result').className")
 
     def edit(self, name, data, kind="A", ttl=None):

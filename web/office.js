@@ -10,8 +10,10 @@ export const part = (text) => encodeURIComponent(text);
 /** What comes before a path of the office, as this caller: the front server asks who may act for several. */
 export const asCaller = (name = state.caller) => (state.actsFor.length ? `/as/${part(name)}` : "");
 
-/** Sends a request, and gives its status (0: no reply came), its JSON, and as whom the front server took it. */
-export async function request(method, path, body) {
+const pause = (seconds) => new Promise((go) => setTimeout(go, seconds * 1000));
+const MOST_TRIES = 5; // of a question that came while too many were open
+
+async function once(method, path, body) {
     try {
         const got = await fetch(location.origin + path, {
             method, body, cache: "no-store", redirect: "error", signal: AbortSignal.timeout(75000),
@@ -27,6 +29,18 @@ export async function request(method, path, body) {
         return {status: got.status, json, caller: got.headers.get("X-Office-Caller")};
     } catch {
         return {status: 0, json: null};
+    }
+}
+
+/** Sends a request, and gives its status (0: no reply came), its JSON, and as whom the front server took it. A question for which too
+ * many others are open is asked again a little later: those of a page that was just left count too. */
+export async function request(method, path, body) {
+    for (let tries = 1; ; tries++) {
+        const reply = await once(method, path, body);
+        if (method !== "GET" || reply.status !== 429 || tries === MOST_TRIES) {
+            return reply;
+        }
+        await pause(tries);
     }
 }
 

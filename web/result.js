@@ -92,7 +92,7 @@ export async function showRefused(job, reply, made) {
         : [make("p", {}, by ? decidedBy(by) : `${inWords(reply)}.`)];
     const part = made.length ? [make("p", {}, t("partsMade", made.length, job.count))] : [];
     show("refused", t(isConflict ? "notMadeMeanwhile" : "notMade"),
-        [...part, ...(isConflict ? [make("p", {}, t("conflictWhat"))] : []), ...(name ? [name] : []), ...words],
+        [...part, ...(isConflict ? [make("p", {}, t("conflictWhat"))] : [...(name ? [name] : []), ...words])],
         [button(t("reviewButton"), () => (location.hash = "review"), {class: "main", id: "result-review"})]);
     say(`${t("notMade")}: ${lacks.length ? lacks.map(deniedText).join("; ") : inWords(reply)}`);
 }

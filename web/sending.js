@@ -83,19 +83,18 @@ async function finish(made, before) {
     showMade(made, before, followed);
 }
 
-/** What a kept update comes to, one from before a reload or of another window. */
+/** What a kept update comes to, one from before a reload or of another window. Whether it had been made before is not known, and so
+ * not what it changed. */
 export async function resume(job) {
-    const before = new Zone(state.zone.origin, state.zone.records);
-    const wasRead = state.isRead && job.zone === state.zone.origin;
     const reply = await deliver(job);
     if (reply && reply.status === 200) {
         const followed = await follow(job.thens ?? []);
         if (job.zone === state.zone.origin) {
             await readRecords();
         }
-        showMade([job], wasRead ? before : null, followed);
+        showMade([job], null, followed);
     } else if (reply) {
-        showRefused(job, reply, []);
+        await showRefused(job, reply, []);
     }
 }
 

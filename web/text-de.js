@@ -1,4 +1,4 @@
-// Die Worte der Seite auf Deutsch. Ein Satz mit einer Zahl ist eine Funktion.
+// The words of the page in German. A sentence with a number is a function.
 
 const figure = (number) => number.toLocaleString("de");
 const count = (number, one, many) => `${figure(number)} ${number === 1 ? one : many}`;
@@ -7,7 +7,7 @@ const edits = (number) => count(number, "Änderung", "Änderungen");
 const time = (number) => count(number, "Sekunde", "Sekunden");
 
 export default {
-    // der Rahmen
+    // the frame
     title: "Zonenverwaltung",
     skip: "Zum Inhalt",
     zone: "Zone",
@@ -34,7 +34,7 @@ export default {
     andMore: (number) => `und ${figure(number)} weitere`,
     changeNumber: "Änderung {0}",
 
-    // Einträge
+    // records
     find: "Suchen",
     filterHelp: "Wörter, oder type:MX, name:labor, data:mail, \"genau so\", 10.11.0.0/24",
     addRecord: "Neuer Eintrag",
@@ -64,7 +64,7 @@ export default {
     records_: (number) => `${entries(number)}.`,
     findHere: "Hier wird die ganze Zone durchsucht. Noch einmal gedrückt, sucht der Browser selbst, aber nur im sichtbaren Teil.",
 
-    // ein Eintrag
+    // the editor
     addHead: "Neuer Eintrag",
     changeHead: "Eintrag ändern",
     editHead: "Änderung bearbeiten, die noch nicht gesendet ist",
@@ -89,7 +89,7 @@ export default {
     "form SRV": "Vorrang, Gewicht, Port und Server: 0 5 389 ldap.example.org",
     "form TXT": "ein Text; oder mehrere, jeder in Anführungszeichen",
 
-    // Änderungen, die nicht gesendet sind
+    // changes that are not sent
     changes: edits,
     yourChanges: "Ihre Änderungen",
     notYet: (number) => `${edits(number)}, noch nicht gesendet.`,
@@ -163,7 +163,7 @@ export default {
     guardLarge: (number) => `ist da (${entries(number)}: der Eintrag wird vor dem Senden verglichen)`,
     room: "{0} Sendungen; {1} Operationen (höchstens {3} in jeder) und {2} Bedingungen (höchstens {4})",
 
-    // Konflikte
+    // conflicts
     changedMeanwhile: "jemand hat es inzwischen geändert",
     asItWas: "Wie es war",
     theirsIs: "Wie es jetzt ist",
@@ -177,7 +177,7 @@ export default {
     resolved: "{0}: entschieden. Sehen Sie es an, und senden Sie es.",
     conflictWhat: "Nichts wurde gemacht. Jede Änderung sagt, was da war, was jetzt da ist, und was Sie tun können.",
 
-    // Senden
+    // sending
     sending: "Sende {0} …",
     sendingPart: "Sende Teil {0} von {1} …",
     sendingAgain: "Sende {0} noch einmal, unter derselben Kennung …",
@@ -208,13 +208,13 @@ export default {
     went: "weg",
     came: "neu",
 
-    // gilt es schon?
+    // is it live
     isLive: "Veröffentlicht: Seriennummer {0}, {1}.",
     isWaiting: "Wartet: Seriennummer {0} ist unterwegs zu den Nameservern, die {1} haben ({2}).",
     isHeld: "Nicht veröffentlicht: Die Nameserver lehnen „{0}“ ab ({1}). Niemandes Änderungen gelten, bis das rückgängig gemacht ist.",
     isHeldByOthers: "Aufgehalten durch einen Eintrag von anderen ({0}). Ihre Änderungen sind aufgehoben und gelten, sobald er rückgängig gemacht ist.",
 
-    // Verlauf
+    // history
     historyWhat: "Was sich an den Einträgen änderte, die Sie sehen dürfen, wer auch immer es war; das Neueste zuerst.",
     historyFind: "Darin suchen",
     readNew: "Neues lesen",
@@ -229,7 +229,7 @@ export default {
     revertReady: (number) => `${edits(number)} nehmen sie zurück, noch nicht gesendet.`,
     revertSkipped: (number, names) => `${edits(number)} nehmen sie zurück. In Ruhe gelassen, da seither anders: ${names}.`,
 
-    // Rechte
+    // rights
     rightsWhat: "Was die Regeln Ihnen erlauben, und welche Regel entscheidet.",
     myRights: "Alle meine Rechte in dieser Zone zeigen",
     askHead: "Darf ich?",
@@ -255,7 +255,7 @@ export default {
     allTypes: "alle Typen",
     byRules: "durch {0}",
 
-    // Delegationen
+    // delegations
     delegationsWhat: "Die Teile der Zone, für die andere Server antworten, soweit Sie sie sehen dürfen.",
     delegateNew: "Einen Namen delegieren …",
     noDelegations: "Keine Delegation, die Sie sehen dürfen.",
@@ -288,7 +288,7 @@ export default {
     keysField: "Schlüssel (DS), einer je Zeile",
     keysWhat: "Nur wenn die Server signieren: eintragen, sobald sie es tun, und löschen, bevor sie aufhören.",
 
-    // Aufgaben
+    // tasks
     newHostWhat: "Adressen und Rückwärtseintrag auf einmal. Die Rückwärtszone ist eine zweite Sendung, nach der ersten.",
     moveHost: "Rechner bekommt andere Adressen …",
     moveHostWhat: "Seine Adressen werden ersetzt, und mit ihnen die Rückwärtseinträge.",
@@ -318,7 +318,7 @@ export default {
     noGoodLine: "Es gibt keine Zeile zu übernehmen.",
     line: "Zeile {0}",
 
-    // Fehler
+    // faults
     "fault noName": "Geben Sie einen Namen an.",
     "fault empty": "Hier steht noch nichts.",
     "fault letters": "dieser Name hat einen Buchstaben, den Namen nicht haben können",

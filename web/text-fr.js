@@ -1,4 +1,4 @@
-// Les mots de la page en français. Une phrase avec un nombre est une fonction.
+// The words of the page in French. A sentence with a number is a function.
 
 const figure = (number) => number.toLocaleString("fr");
 const count = (number, one, many = `${one}s`) => `${figure(number)} ${number < 2 ? one : many}`;
@@ -6,7 +6,7 @@ const entries = (number) => count(number, "enregistrement");
 const edits = (number) => count(number, "modification");
 
 export default {
-    // le cadre
+    // the frame
     title: "Bureau des zones",
     skip: "Au contenu",
     zone: "Zone",
@@ -33,7 +33,7 @@ export default {
     andMore: (number) => `et ${figure(number)} de plus`,
     changeNumber: "modification {0}",
 
-    // enregistrements
+    // records
     find: "Chercher",
     filterHelp: "Des mots, ou type:MX, name:labo, data:mail, \"exact\", 10.11.0.0/24",
     addRecord: "Ajouter un enregistrement",
@@ -63,7 +63,7 @@ export default {
     records_: (number) => `${entries(number)}.`,
     findHere: "Toute la zone est cherchée ici. Encore une fois pour la recherche du navigateur, qui ne trouve que ce qui est visible.",
 
-    // l’éditeur
+    // the editor
     addHead: "Ajouter un enregistrement",
     changeHead: "Modifier un enregistrement",
     editHead: "Éditer une modification pas encore envoyée",
@@ -88,7 +88,7 @@ export default {
     "form SRV": "priorité, poids, port et serveur : 0 5 389 ldap.example.org",
     "form TXT": "un texte ; ou plusieurs, chacun entre guillemets droits",
 
-    // modifications pas envoyées
+    // changes that are not sent
     changes: edits,
     yourChanges: "Vos modifications",
     notYet: (number) => `${edits(number)}, pas encore envoyé.`,
@@ -162,7 +162,7 @@ export default {
     guardLarge: (number) => `existe (${entries(number)} : l’enregistrement est comparé avant l’envoi)`,
     room: "{0} envois ; {1} opérations (au plus {3} dans chacun) et {2} gardes (au plus {4})",
 
-    // conflits
+    // conflicts
     changedMeanwhile: "quelqu’un l’a modifié entre-temps",
     asItWas: "Comme c’était",
     theirsIs: "Le leur, maintenant",
@@ -176,7 +176,7 @@ export default {
     resolved: "{0} : décidé. Regardez, et envoyez.",
     conflictWhat: "Rien n’a été fait. Chaque modification dit ce qu’il y avait, ce qu’il y a maintenant, et ce que vous pouvez faire.",
 
-    // envoyer
+    // sending
     sending: "Envoi de {0} …",
     sendingPart: "Envoi de la partie {0} sur {1} …",
     sendingAgain: "Nouvel envoi de {0}, sous le même identifiant …",
@@ -207,13 +207,13 @@ export default {
     went: "parti",
     came: "venu",
 
-    // est-ce en ligne ?
+    // is it live
     isLive: "En ligne : numéro de série {0}, {1}.",
     isWaiting: "En attente : le numéro de série {0} est en route vers les serveurs de noms, qui ont {1} ({2}).",
     isHeld: "Pas publié : les serveurs de noms refusent « {0} » ({1}). Les modifications de personne ne valent jusqu’à ce que ce soit défait.",
     isHeldByOthers: "Retenu par un enregistrement d’autrui ({0}). Vos modifications sont gardées, et valent dès que c’est défait.",
 
-    // historique
+    // history
     historyWhat: "Ce qui a changé parmi les enregistrements que vous pouvez voir, par qui que ce soit ; le plus récent d’abord.",
     historyFind: "Y chercher",
     readNew: "Lire le nouveau",
@@ -228,7 +228,7 @@ export default {
     revertReady: (number) => `${edits(number)} pour revenir en arrière, pas encore envoyé.`,
     revertSkipped: (number, names) => `${edits(number)} pour revenir en arrière. Laissés, car changés depuis : ${names}.`,
 
-    // droits
+    // rights
     rightsWhat: "Ce que les règles vous permettent, et la règle qui décide.",
     myRights: "Montrer tous mes droits dans cette zone",
     askHead: "Puis-je ?",
@@ -254,7 +254,7 @@ export default {
     allTypes: "tous les types",
     byRules: "par {0}",
 
-    // délégations
+    // delegations
     delegationsWhat: "Les parties de la zone pour lesquelles d’autres serveurs répondent, autant que vous pouvez les voir.",
     delegateNew: "Déléguer un nom …",
     noDelegations: "Aucune délégation que vous puissiez voir.",
@@ -287,7 +287,7 @@ export default {
     keysField: "Clés (DS), une par ligne",
     keysWhat: "Seulement si les serveurs signent : ajoutez-la quand ils le font, et ôtez-la avant qu’ils arrêtent.",
 
-    // tâches
+    // tasks
     newHostWhat: "Les adresses et l’entrée inverse d’un coup. La zone inverse est un second envoi, après le premier.",
     moveHost: "Donner d’autres adresses à une machine …",
     moveHostWhat: "Ses adresses sont remplacées, et ses entrées inverses avec elles.",
@@ -317,7 +317,7 @@ export default {
     noGoodLine: "Il n’y a aucune ligne à prendre.",
     line: "ligne {0}",
 
-    // fautes
+    // faults
     "fault noName": "Donnez un nom.",
     "fault empty": "Il n’y a encore rien ici.",
     "fault letters": "ce nom a une lettre que les noms ne peuvent avoir",
