@@ -1,10 +1,12 @@
 """What is written by hand and has to agree with the sources: each function gives a line for whatever does not."""
 
+import glob
+import os
 import re
 from itertools import count
 
 from making import believe, proved, sources
-from making.files import read
+from making.files import TOP, read
 from making.lists import spoken
 
 
@@ -21,11 +23,13 @@ def differing(path, what, found, wanted):
 # Record types, actions, defaults
 
 def keys_of_page():
-    """What the page says of each type and each action."""
-    page = read("web", "page.js")
-    for name, wanted in ("FORMS", sources.type_names()), ("ACTIONS", sources.actions()):
-        body = re.search(rf"^const {name} = \{{\n(.*?)^\}};", page, re.M | re.S)
-        yield from differing("web/page.js", name, re.findall(r"^    (\w+):", body[1] if body else "", re.M), wanted)
+    """What the page says, in each language, of each type, action and rule for zones."""
+    tables = sorted(glob.glob(os.path.join(TOP, "web", "text-*.js")))
+    for path in [os.path.relpath(table, TOP) for table in tables]:
+        keys = re.findall(r'^    "?([\w -]+?)"?:', read(*path.split("/")), re.M)
+        for name, wanted in ("form", sources.type_names()), ("what", sources.actions()), ("action", sources.actions()):
+            yield from differing(path, f"the words of {name}", [key.split()[1] for key in keys if key.startswith(f"{name} ")], wanted)
+        yield from differing(path, "the rules for zones", [key for key in keys if key in sources.rules()], sources.rules())
 
 
 def stated():

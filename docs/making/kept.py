@@ -15,8 +15,8 @@ LISTS = {
         ("docs/proved.md", "types", lists.types_spoken),
         ("docs/openapi.yaml", "types", lists.types_in_either_case),
         ("docs/openapi.yaml", "types of lines", lists.types_of_lines),
-        ("web/page.js", "types", lists.types_of_page),
-        ("web/page.js", "fields", lists.fields_of_page),
+        ("web/data.js", "types", lists.types_of_page),
+        ("web/data.js", "fields", lists.fields_of_page),
         ("client/office_client/tables.py", "types", lists.types_of_client),
         ("adapters/office_records.py", "types", lists.types_of_adapters),
     ],
@@ -25,6 +25,7 @@ LISTS = {
         ("docs/policy.md", "what actions allow", lists.actions_of_policy),
         ("docs/openapi.yaml", "actions", lists.actions_of_openapi),
         ("client/office_client/tables.py", "actions", lists.actions_of_client),
+        ("web/rights.js", "actions", lists.actions_of_page),
     ],
     "commands": [
         ("docs/commands.md", "arguments", lists.arguments_of_commands),

@@ -49,7 +49,7 @@ def fields_of_page(_):
         if one.fields != ["Strings"]:
             unknown = [kind for kind in one.fields if kind not in READERS]
             if unknown:
-                raise Wrong(f"web/page.js reads no field that is a {unknown[0]}, as {one.name} has one")
+                raise Wrong(f"web/data.js reads no field that is a {unknown[0]}, as {one.name} has one")
             lines.append(f"    {one.name}: [{', '.join(READERS[kind] for kind in one.fields)}],")
     return "\n".join([*lines, "};"])
 
@@ -75,6 +75,10 @@ def actions_of_policy(old):
 
 def actions_of_openapi(_):
     return f"enum: [{', '.join(sources.actions())}]"
+
+
+def actions_of_page(_):
+    return f"const ACTIONS = {json.dumps(sources.actions())};"
 
 
 def actions_of_client(_):

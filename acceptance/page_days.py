@@ -1,0 +1,464 @@
+"""Days of a department: stories of the page, as presses and keys from a wish to what the name server answers.
+
+Each day is a function that takes the browsers of the users and a name server that has what the office has; it ends with what `dig` says.
+"""
+
+
+import os
+import subprocess
+
+from selenium.common.exceptions import WebDriverException
+
+from page_browser import REVERSE, ZONE, add, ask, at, change, listed
+from trying import check, expect, must, run, wait_for
+
+PORT = 5300
+DAYS = []
+
+
+def day(function):
+    """Takes a story into the list; its first line of documentation is its name."""
+    DAYS.append(function)
+    return function
+
+
+class NameServer:
+    """BIND with the zones of the office, taken to it as `publish` takes them: whole, and only where it loads them."""
+
+    def __init__(self, folder):
+        self.folder = f"{folder}/memory/named"
+        os.makedirs(self.folder)
+        zones = "".join(f'zone "{zone}" {{ type primary; file "{self.folder}/{zone}zone"; }};\n' for zone in (ZONE, REVERSE))
+        options = (f'options {{ directory "{self.folder}"; pid-file none; listen-on port {PORT} {{ 127.0.0.1; }}; listen-on-v6 {{ none; }}; '
+                   "recursion no; dnssec-validation no; notify no; };\n")
+        with open(f"{self.folder}/named.conf", "w", encoding="utf-8") as conf:
+            conf.write(f"{options}controls {{ }};\n{zones}")
+        self.process = None
+
+    def take(self):
+        """Takes the zones, and gives for each whether BIND would load it."""
+        loads = {}
+        for zone in ZONE, REVERSE:
+            path = f"{self.folder}/{zone}zone"
+            text = must(f"curl -sS --unix-socket /run/zoneoffice-publisher/office.sock http://office/zones/{zone}/file")
+            with open(f"{path}.new", "w", encoding="utf-8") as file:
+                file.write(text + "\n")
+            loads[zone] = run(f"named-checkzone -k fail -i local {zone} {path}.new")[0] == 0
+            if loads[zone]:
+                os.replace(f"{path}.new", path)
+        if self.process is None:
+            self.process = subprocess.Popen(["named", "-f", "-4", "-n", "1", "-c", f"{self.folder}/named.conf"],
+                                            stdout=subprocess.DEVNULL, stderr=subprocess.DEVNULL)
+        else:
+            self.process.send_signal(1)
+        for zone, is_good in loads.items():
+            serial = open(f"{self.folder}/{zone}zone", encoding="utf-8").read().split(" SOA ")[1].split()[2]
+            if is_good and not wait_for(lambda wanted=serial, name=zone: wanted in run(f"dig @127.0.0.1 -p {PORT} +short {name} SOA")[1].split()):
+                raise TimeoutError(f"BIND does not have serial {serial} of {zone}")
+        return loads
+
+    def dig(self, name, kind="A", words="+short"):
+        self.take()
+        return sorted(must(f"dig @127.0.0.1 -p {PORT} {words} '{name}' {kind}").splitlines())
+
+    def authority(self, name):
+        """The servers and addresses of a referral."""
+        said = self.dig(name, "A", "+noall +authority +additional +norecurse")
+        return sorted(" ".join(line.split()[3:]) for line in said if line.split()[3] in ("NS", "A", "AAAA"))
+
+    def stop(self):
+        if self.process:
+            self.process.kill()
+            self.process.wait()
+
+
+def p(name):
+    return f"{name}.physics.{ZONE}"
+
+
+@day
+def a_new_host(phys, named):
+    """a host with a long address book: one record, said in words, and live"""
+    phys.edit("day1.physics", "192.0.2.11", ttl="5 min")
+    expect("day 1, a new host: the plan says it in words", phys.plan(), [["day1.physics", "new A 192.0.2.11 5 min", ["you may (rule physics)"]]])
+    expect("it is made, and the name server has it", (phys.send(), named.dig(p("day1"))), ("made", ["192.0.2.11"]))
+
+
+@day
+def an_umlaut(phys, named):
+    phys.view("records")
+    phys.press("#add")
+    phys.write("edit-name", "bücher.physics")
+    phys.write("edit-data", "192.0.2.12")
+    expect("day 2, a name with an umlaut: it is shown as both", phys.text("edit-name-hint"),
+           f"is bücher.physics.{ZONE} (xn--bcher-kva.physics.{ZONE})")
+    phys.press("#edit .main")
+    phys.view("records")
+    expect("it is made, and the name server loads the zone and has it", (phys.send(), named.take()[ZONE], named.dig(f"xn--bcher-kva.physics.{ZONE}")),
+           ("made", True, ["192.0.2.12"]))
+    phys.filter("bücher")
+    expect("it is found as it is written", [row[0] for row in phys.rows()], [f"xn--bcher-kva.physics.{ZONE}"])
+    phys.filter("")
+
+
+@day
+def an_underscore(phys, named):
+    phys.edit("my_pc.physics", "192.0.2.13")
+    (_, _, marks), = phys.plan()
+    expect("day 3, an underscore in a host's name: the plan says that name servers refuse the zone", marks[0].split(":")[0], "name servers would refuse the zone")
+    before = len(listed("phys"))
+    phys.press("#review-send")
+    phys.wait("document.getElementById('send-anyway')", "the second press")
+    expect("one press does not send it", ([row for row in listed("phys") if "my_pc" in row], len(listed("phys"))), ([], before))
+    phys.press("#send-anyway")
+    phys.wait("document.getElementById('result').className === 'made' && !document.getElementById('result').hidden", "the result")
+    expect("a second one does, and the name server refuses it, as it was said", (at("phys", p("my_pc"), "A"), named.take()[ZONE]), (["192.0.2.13"], False))
+    phys.change("my_pc.physics", "192.0.2.13")
+    phys.view("records")
+    phys.press("[aria-label^='Delete my_pc.physics']")
+    phys.edit("my_pc2.physics", "192.0.2.14")
+    phys.plan()
+    phys.press("#plan .mark.bad button")
+    expect("the plan makes it a name that can be, and takes the other back", [line[:2] for line in phys.plan()],
+           [["my_pc.physics", "Delete A 192.0.2.13"], ["my-pc2.physics", "new A 192.0.2.14 1 h"]])
+    expect("then the zone loads again, and the host is live", (phys.send(), named.take()[ZONE], named.dig(p("my-pc2"))), ("made", True, ["192.0.2.14"]))
+
+
+@day
+def a_dotted_alias(phys, named):
+    phys.view("records")
+    phys.press("#add")
+    phys.write("edit-name", "search.physics")
+    phys.choose("edit-type", "CNAME")
+    phys.write("edit-data", "www.google.com")
+    expect("day 4, an alias of www.google.com without its last dot: it is that name, and the other reading is offered",
+           (phys.text("edit-data-hint"), phys.js("return [...document.querySelectorAll('#readings label')].map((one) => one.textContent.trim())")),
+           ("is www.google.com.", ["www.google.com.", f"www.google.com.{ZONE}"]))
+    phys.press("#edit .main")
+    expect("it is live as it was meant", (phys.send(), named.dig(f"search.physics.{ZONE}", "CNAME")), ("made", ["www.google.com."]))
+
+
+@day
+def a_name_in_the_zone(phys, named):
+    phys.view("records")
+    phys.press("#add")
+    phys.write("edit-name", "wiki.physics")
+    phys.choose("edit-type", "CNAME")
+    phys.write("edit-data", "day1.physics")
+    marked = "return [...document.querySelectorAll('#readings label')].map((one) => [one.textContent.trim(), one.querySelector('input').checked])"
+    expect("day 5, a dotted name that the zone has: both are offered, and the one in the zone is marked", phys.js(marked),
+           [[f"day1.physics.{ZONE} (it is in the zone)", True], ["day1.physics.", False]])
+    phys.press("#edit .main")
+    expect("it is live", (phys.send(), named.dig(f"wiki.physics.{ZONE}")), ("made", ["192.0.2.11", f"day1.physics.{ZONE}"]))
+
+
+def in_conflict(phys, name):
+    """A host with .31, which phys makes .32, while somebody makes it .39."""
+    change(add(p(name), "A", "192.0.2.31", 3600))
+    phys.view("records")
+    phys.press("#again")
+    phys.wait(f"document.querySelector(\"[aria-label^='Change {p(name)}']\")", "the host")
+    phys.change(p(name), "192.0.2.32")
+    phys.view("records")
+    change({"op": "delete-record", "name": p(name), "type": "A", "data": "192.0.2.31"}, add(p(name), "A", "192.0.2.39", 300))
+    result = phys.send()
+    head = phys.text("result-head")
+    phys.press("#result-review")
+    return result, head
+
+
+@day
+def replace_theirs(phys, named):
+    expect("day 6, somebody changed the address meanwhile: nothing is made", in_conflict(phys, "day6"), ("refused", "Not made: it was changed meanwhile"))
+    phys.wait("document.querySelector('.conflict dl')", "the choice")
+    expect("the plan has mine, theirs, and as it was", phys.js("return [...document.querySelectorAll('.conflict dd')].map((one) => one.textContent)"),
+           ["A 192.0.2.31", "A 192.0.2.39 without A 192.0.2.31", "A 192.0.2.32"])
+    phys.picture("conflict")
+    phys.press("[data-resolve=replace]")
+    expect("replaced, mine is the only one", (phys.send("#review-send"), named.dig(p("day6"))), ("made", ["192.0.2.32"]))
+
+
+@day
+def keep_both(phys, named):
+    in_conflict(phys, "day7")
+    phys.press("[data-resolve=both]")
+    expect("day 7, the same, and both are kept", (phys.send("#review-send"), named.dig(p("day7"))), ("made", ["192.0.2.32", "192.0.2.39"]))
+
+
+@day
+def keep_theirs(phys, named):
+    in_conflict(phys, "day8")
+    phys.press("[data-resolve=theirs]")
+    phys.wait("!document.querySelector('#plan li')", "the end of it")
+    expect("day 8, the same, and theirs is kept", named.dig(p("day8")), ["192.0.2.39"])
+
+
+@day
+def a_denial_elsewhere(phys, named):
+    phys.view("records")
+    phys.press("#add")
+    phys.write("edit-name", "vault.physics")
+    phys.write("edit-data", "192.0.2.15")
+    phys.wait("document.getElementById('edit-marks').textContent.includes('rule vault')", "the denial")
+    phys.press("#edit-cancel")
+    phys.press(f"[aria-label^='Change lab.physics.{ZONE} A']")
+    expect("day 9, a denial of one name is not said of the next", "vault" in phys.text("edit-marks"), False)
+    phys.write("edit-data", "192.0.2.150")
+    phys.press("#edit .main")
+    expect("which can be changed", (phys.send(), named.dig(p("lab"))), ("made", ["192.0.2.150"]))
+
+
+@day
+def an_alias_beside_others(phys, named):
+    phys.edit("lab.physics", "day1", "CNAME")
+    (_, _, marks), = phys.plan()
+    expect("day 10, an alias beside an address: nothing would change, and why", (marks[0].split(":")[0], phys.js("return document.getElementById('review-send').disabled")),
+           ("nothing would change", True))
+    phys.press("#plan .mark.bad button")
+    result = phys.send("#review-send")
+    expect("with the others deleted in the same update it is live", (result, named.dig(p("lab"), "CNAME")), ("made", [f"day1.{ZONE}"]))
+
+
+@day
+def undo_and_edit(phys, named):
+    phys.edit("day11.physics", "192.0.2.61")
+    phys.edit("typo.physics", "192.0.2.62")
+    phys.press("#undo")
+    phys.plan()
+    phys.press("#plan .do button")
+    phys.write("edit-data", "192.0.2.63")
+    phys.press("#edit .main")
+    expect("day 11, a step undone, and a change edited before it is sent", [line[:2] for line in phys.plan()], [["day11.physics", "new A 192.0.2.63 1 h"]])
+    expect("one record is live", (phys.send(), named.dig(p("day11")), named.dig(p("typo"))), ("made", ["192.0.2.63"], []))
+
+
+@day
+def a_closed_tab(phys, named):
+    phys.edit("day12.physics", "192.0.2.64")
+    phys.in_new_tab()
+    expect("day 12, the tab was closed: the changes are there", [line[:2] for line in phys.plan()], [["day12.physics", "new A 192.0.2.64 1 h"]])
+    expect("and can be sent", (phys.send(), named.dig(p("day12"))), ("made", ["192.0.2.64"]))
+
+
+@day
+def many_at_once(phys, named):
+    lines = "name,address\n" + "".join(f"many{n}.physics,192.0.2.{n % 200}\n" for n in range(1, 131)) + "bad_,192.0.2.999\n"
+    phys.view("records")
+    phys.choose("more", "paste")
+    phys.js("const field = document.getElementById('task-text'); field.value = arguments[0]; field.dispatchEvent(new Event('input', {bubbles: true}))", lines)
+    phys.wait("document.querySelectorAll('#task-marks .mark').length === 131", "the verdicts")
+    phys.press("#task .main")
+    phys.wait("document.querySelectorAll('#plan > li').length === 130", "the plan")
+    phys.settled()
+    expect("day 13, 130 records of a table: sent as several updates", phys.text("review-what"),
+           "This is too much for one update. It is sent as 3 updates, one after the other; each is made whole, or not at all.")
+    result = phys.send("#review-send", 600)
+    live = [named.dig(f"many{n}.physics.{ZONE}") for n in (1, 100, 130)]
+    expect("all are live", (result, live, sum(row.startswith("many") for row in listed("phys"))), ("made", [["192.0.2.1"], ["192.0.2.100"], ["192.0.2.130"]], 130))
+
+
+@day
+def one_of_a_hundred(phys, named):
+    name = f"pool.physics.{ZONE}"
+    change(*[add(name, "A", f"192.0.2.{n}") for n in range(1, 101)])
+    phys.view("records")
+    phys.press("#again")
+    phys.filter(f'"{name}" 192.0.2.42')
+    phys.wait("document.querySelectorAll('#table tbody:not(#new-rows) tr').length === 1", "the record")
+    phys.press(f"[aria-label^='Delete {name} A 192.0.2.42']")
+    expect("day 14, one address of a hundred: it is guarded by the record", phys.guards(),
+           [f"{name} A exists (it has 100 records: the record is compared before it is sent)"])
+    result = phys.send("#review-send")
+    found = named.dig(name)
+    expect("it is gone, and the others are there", (result, len(found), "192.0.2.42" in found), ("made", 99, False))
+    phys.view("records")
+    phys.filter("")
+
+
+@day
+def a_host_with_its_reverse(phys, named):
+    phys.view("records")
+    phys.press("#new-host")
+    phys.write("task-name", "day15.physics")
+    phys.write("task-addresses", "192.0.2.240/29 2001:db8::15")
+    phys.wait("document.getElementById('task-marks').textContent.includes('then, in')", "what it comes to")
+    phys.press("#task .main")
+    expect("day 15, a new host at the next free address of a net, with its reverse entry in another zone",
+           [line[:2] for line in phys.plan()] + [phys.js("return document.querySelector('#plan .then').textContent")],
+           [["day15.physics", "new A 192.0.2.241 1 h"], ["day15.physics", "new AAAA 2001:db8::15 1 h"],
+            f"then, in {REVERSE}: 241.{REVERSE}: new PTR day15.physics.{ZONE} 1 h"])
+    result = phys.send("#review-send")
+    expect("both zones have it", (result, named.dig(p("day15")), named.dig(p("day15"), "AAAA"), named.dig(f"241.{REVERSE}", "PTR")),
+           ("made", ["192.0.2.241"], ["2001:db8::15"], [f"day15.physics.{ZONE}"]))
+
+
+@day
+def a_host_that_moves(phys, named):
+    phys.view("records")
+    phys.choose("more", "moveHost")
+    phys.write("task-name", "day15.physics")
+    phys.write("task-addresses", "192.0.2.245")
+    phys.press("#task .main")
+    expect("day 16, it moves to another address", [line[:2] for line in phys.plan()], [["day15.physics", "A 192.0.2.241 → 192.0.2.245"]])
+    result = phys.send("#review-send")
+    expect("and its reverse entry with it", (result, named.dig(p("day15")), named.dig(f"241.{REVERSE}", "PTR"), named.dig(f"245.{REVERSE}", "PTR")),
+           ("made", ["192.0.2.245"], [], [f"day15.physics.{ZONE}"]))
+
+
+@day
+def a_host_that_goes(phys, named):
+    phys.edit("old-name.physics", "day15.physics", "CNAME")
+    phys.send()
+    phys.view("records")
+    phys.choose("more", "retireHost")
+    phys.write("task-name", "day15.physics")
+    phys.press("#task .main")
+    expect("day 17, a host goes: its records, and the alias of it", sorted(line[0] for line in phys.plan()), ["day15.physics", "day15.physics", "old-name.physics"])
+    result = phys.send("#review-send")
+    expect("nothing is left of it", (result, named.dig(p("day15"), "ANY"), named.dig(p("old-name"), "CNAME"), named.dig(f"245.{REVERSE}", "PTR")), ("made", [], [], []))
+
+
+@day
+def a_longer_ttl(phys, named):
+    name = p("day18")
+    change(add(name, "A", "192.0.2.81", 3600), add(name, "A", "192.0.2.82", 3600))
+    phys.view("records")
+    phys.press("#again")
+    phys.wait(f"document.querySelector(\"[aria-label^='Change {name}']\")", "the host")
+    phys.press(f"[aria-label^='Change {name}']")
+    phys.write("edit-ttl", "1 min")
+    phys.press("#edit .main")
+    expect("day 18, another TTL: the plan says how many records it is of", [line[:2] for line in phys.plan()], [["day18.physics", "A 192.0.2.81 TTL 1 h → 1 min (2 records)"]])
+    result = phys.send()
+    expect("both have it", (result, [line.split()[1] for line in named.dig(name, "A", "+noall +answer")]), ("made", ["60", "60"]))
+
+
+@day
+def mail_for_a_domain(phys, named):
+    phys.view("records")
+    phys.choose("more", "mailDomain")
+    phys.write("task-domain", "post.physics")
+    phys.write("task-servers", "mail mx.example.net")
+    phys.write("task-reports", "dmarc@example.org")
+    phys.press("#task .main")
+    result = phys.send()
+    name = f"post.physics.{ZONE}"
+    expect("day 19, a domain that gets mail", (result, named.dig(name, "MX"), named.dig(name, "TXT"), named.dig(f"_dmarc.{name}", "TXT")),
+           ("made", [f"10 mail.{ZONE}", "20 mx.example.net."], ['"v=spf1 mx -all"'], ['"v=DMARC1; p=none; rua=mailto:dmarc@example.org"']))
+
+
+@day
+def who_broke_it(phys, named):
+    change({"op": "delete-rrset", "name": p("day1"), "type": "A"}, add(p("day1"), "A", "203.0.113.1", 60))
+    broken = named.dig(p("day1"))
+    number = len(ask("phys", "GET", f"/zones/{ZONE}/changes/1")[2]["changes"])
+    phys.mine("trail", {ZONE: {str(number): {"caller": "admin", "person": "alice", "time": "2026-11-30T04:07:00Z", "id": "t4711"}}})
+    phys.view("changes")
+    phys.press("#changes-again")
+    phys.wait(f"document.querySelector('#changes-list h3')?.textContent === 'change {number}'", "the change")
+    first = phys.js("return document.querySelector('#changes-list > li').innerText")
+    expect("day 20, somebody broke it: the history says who, what moved from where to where, and which ticket",
+           [word in first for word in ("alice (admin)", "t4711", f"{p('day1')} A 192.0.2.11 → 203.0.113.1")], [True] * 3)
+    phys.picture("changes")
+    phys.press("#changes-list button")
+    expect("put back by one press, guarded", [line[:2] for line in phys.plan()], [["day1.physics", "A 203.0.113.1 → 192.0.2.11 TTL 1 min → 5 min"]])
+    expect("it is live again", (broken, phys.send(), named.dig(p("day1"))), (["203.0.113.1"], "made", ["192.0.2.11"]))
+
+
+def rights_of_others(open_browser, named):
+    """Days of users who have a part of the rights."""
+    browser = open_browser("adder")
+    try:
+        browser.edit("day21.open", "192.0.2.91")
+        (_, _, marks), = browser.plan()
+        expect("day 21, who may add and not check: it is said before, and sent without a guard", marks,
+               ["you may (rule adders)", "sent without a guard, since you may not check this set: no rule grants it (closing)"])
+        expect("it is made", (browser.send(), named.dig(f"day21.open.{ZONE}")), ("made", ["192.0.2.91"]))
+    finally:
+        browser.close()
+    browser = open_browser("keeper")
+    try:
+        label = f"day21.open.{ZONE} A 192.0.2.91"
+        browser.wait(f"document.querySelector(\"[aria-label^='Delete {label}:']\")", "the reason at the button")
+        reason = browser.js("return document.querySelector(arguments[0]).title", f"[aria-label^='Delete {label}']")
+        expect("day 22, who may not delete: the button is grey, with the reason", reason, "you may not delete A at day21.open: no rule grants it (closing)")
+        browser.change(label, "192.0.2.92")
+        (_, _, marks), = browser.plan()
+        disabled = browser.js("return document.getElementById('draft-send').disabled")
+        expect("a change, which deletes too, is said to be denied, with whom to ask", (marks, disabled, "mailto:hostmaster" in browser.js(
+            "return document.querySelector('#plan a').href")), (["you may not delete A at day21.open: no rule grants it (closing)"], True, False))
+        expect("and nothing was made", named.dig(f"day21.open.{ZONE}"), ["192.0.2.91"])
+    finally:
+        browser.close()
+
+
+def delegations(browser, named):
+    """Medicine's servers: names without their dot, keys, what is missing, and the end of it."""
+    name = f"medicine.{ZONE}"
+    browser.mine("children", {ZONE: {name: {"checked": "2026-11-30T04:07:00Z", "servers": {f"ns1.{name}": "silent"}, "ds": "none"}}})
+    browser.view("delegations")
+    browser.ready("delegations? of .*read at")
+    expect("day 23, delegations as a picture: child, server, glue, and whether it answers", browser.js(
+        "return [...document.querySelectorAll('#children .node')].map((one) => one.firstChild.textContent.trim())"), [ZONE, "medicine", "ns1.medicine", "198.51.100.53"])
+    check("a server that is silent is red", None if browser.js("return document.querySelector('#children .node.bad').textContent.includes('does not answer')") else "it is not")
+    browser.picture("delegations")
+    browser.press("[aria-label^='Change medicine']")
+    browser.write("server-1-addresses", "")
+    browser.press("#delegate .main")
+    expect("a server within the child needs an address, in words", browser.text("delegate-fault"),
+           f"ns1.{name}: a server within the child has no address, so that no one could find it (48)".replace(" (48)", ""))
+    browser.write("server-1-addresses", "198.51.100.54 2001:db8::54")
+    browser.press("#server-add")
+    browser.write("server-2-name", "ns2.example.net")
+    hint = browser.text("server-2-name-hint")
+    browser.write("child-ds", "60485 13 2 2BB183AF5F22588179A53B0A98631FAD1A292118A4D0E3F0B2D9A8F3C4B5A697")
+    browser.picture("delegate")
+    browser.press("#delegate .main")
+    expect("a server's name without its last dot is that name, and is said to be", hint, f"is ns2.example.net.; not ns2.example.net.{ZONE}")
+    browser.plan()
+    result = browser.send()
+    expect("the key is live", (result, named.dig(name, "DS")), ("made", ["60485 13 2 2BB183AF5F22588179A53B0A98631FAD1A292118A4D0E3F0B2D9A8F3 C4B5A697"]))
+    expect("and the referral has both servers and the new addresses", named.authority(f"www.{name}"),
+           sorted(["A 198.51.100.54", "AAAA 2001:db8::54", f"NS ns1.{name}", "NS ns2.example.net."]))
+    browser.view("delegations")
+    browser.ready("delegations? of .*read at")
+    browser.press("[aria-label^='End medicine']")
+    expect("day 24, a delegation ends: servers, keys and glue go", sorted(line[1].split()[1] for line in browser.plan()), ["A", "AAAA", "DS", "NS", "NS"])
+    result = browser.send()
+    expect("nothing is left of it", (result, named.dig(name, "NS"), [row for row in listed("admin") if "medicine" in row]), ("made", [], []))
+
+
+def is_it_live(browser, named):
+    """What publish says is shown to those who may see it."""
+    states = [({"state": "published", "serial": 7, "served": 7, "since": "2026-11-30T04:07:00Z"}, "Live: serial 7"),
+              ({"state": "waiting", "serial": 8, "served": 7, "since": "2026-11-30T04:07:00Z"}, "Waiting: serial 8"),
+              ({"state": "held", "serial": 8, "served": 7, "since": "2026-11-30T04:07:00Z", "reason": "my_pc.physics: bad owner name (check-names)",
+                "change": 12, "caller": "phys"}, "Not published: the name servers refuse “my_pc.physics: bad owner name (check-names)” (phys, change 12, "),
+              ({"state": "held", "serial": 8, "served": 7, "since": "2026-11-30T04:07:00Z", "others": True}, "Held up by a record of another")]
+    said = []
+    for one, wanted in states:
+        browser.mine("status", {ZONE: one})
+        browser.open()
+        browser.wait("!document.getElementById('live').hidden", "the state")
+        said.append(wanted in browser.text("live"))
+    expect("day 25, is it live: published, waiting, held up by my record, held up by another's", said, [True] * len(states))
+    os.remove(browser.mine("status", {}))
+    expect("and where nobody writes that, nothing is said", (browser.open(), browser.js("return document.getElementById('live').hidden")), (None, True))
+    expect("what the name server has is what the office has", bool(named.take()[ZONE]), True)
+
+
+def all_days(phys, named, open_browser):
+    for story in DAYS:
+        try:
+            story(phys, named)
+        except (TimeoutError, WebDriverException) as fault:
+            check(f"the day of {story.__name__.replace('_', ' ')}", str(fault).splitlines()[0])
+            phys.start_anew()
+    is_it_live(phys, named)
+    rights_of_others(open_browser, named)
+    med = open_browser("med")
+    try:
+        delegations(med, named)
+    finally:
+        med.close()
+

@@ -1,0 +1,128 @@
+// What changed, who changed it and when, and how to take it back. What was read is kept in the browser; only what is new is asked for, so
+// that the office, which reads its history from the start for whoever asks for old numbers, keeps nobody waiting.
+
+import {$, afterTyping, button, code, make, say} from "./elements.js";
+import {putIn} from "./draft.js";
+import {toUnicode} from "./names.js";
+import {mine, readList} from "./office.js";
+import {state, store, stored} from "./state.js";
+import {clock, dateTime, t} from "./text.js";
+import {readLine} from "./zone.js";
+import {ttlText} from "./data.js";
+
+const KEPT = 200; // changes that the browser keeps
+const PAGE = 20; // changes that are shown at once
+const MOST_LINES = 200; // of one change
+
+let changes = []; // the oldest first
+let shown = PAGE;
+let trail = {};
+let read = "";
+
+const key = () => `zoneoffice history ${state.caller} ${state.zone.origin}`;
+
+/** Reads what is new; or all, where the numbers may be others now. */
+export async function readChanges(isAll = false) {
+    say(t("readingHistory", state.zone.origin));
+    if (read !== key() || isAll) {
+        changes = isAll ? [] : stored(key()) ?? [];
+        [read, shown] = [key(), PAGE];
+    }
+    const [list, all] = await Promise.all([readList(`changes/${(changes.at(-1)?.number ?? 0) + 1}`, "changes"), mine("trail")]);
+    if (list === null) {
+        return;
+    }
+    trail = all?.[state.zone.origin] ?? {};
+    const news = list.filter(({number}) => number > (changes.at(-1)?.number ?? 0));
+    changes = [...changes, ...news];
+    const kept = changes.slice(-KEPT);
+    if (!store(key(), kept)) {
+        store(key(), kept.slice(-10)); // large changes
+    }
+    showChanges();
+    say(changes.length ? t("historyRead", changes.at(-1).number, clock()) : t("noHistory", state.zone.origin));
+}
+
+/** Records that went and came at one name and type are what became of one another. */
+export function movesOf({removed, added}) {
+    const [went, came] = [removed, added].map((lines) => lines.map(readLine).filter(({type}) => type !== "SOA"));
+    const moves = [];
+    for (const old of went) {
+        const at = ["data", "ttl"].map((same) => came.findIndex((now) => now.name === old.name && now.type === old.type && now[same] === old[same]))
+            .find((place) => place >= 0) ?? came.findIndex((now) => now.name === old.name && now.type === old.type);
+        const [now] = at >= 0 ? came.splice(at, 1) : [];
+        moves.push({old, now});
+    }
+    return [...moves, ...came.map((now) => ({now}))];
+}
+
+function moveItem({old, now}) {
+    const {name, type} = now ?? old;
+    const letters = toUnicode(name);
+    const link = make("a", {href: `#records?record=${encodeURIComponent(name)}`}, code(name));
+    const kind = old && now ? "changed" : now ? "came" : "went";
+    const sign = {changed: "↔", came: "+", went: "−"}[kind];
+    const value = old && now && old.data === now.data ? [code(now.data), ` ${t("ttl")} `, make("del", {}, ttlText(old.ttl)), " → ", make("ins", {}, ttlText(now.ttl))]
+        : [...(old ? [make("del", {}, old.data)] : []), ...(old && now ? [" → "] : []), ...(now ? [make("ins", {}, now.data)] : [])];
+    return make("li", {}, make("span", {class: kind}, `${sign} ${t(kind)}`), " ", link, letters ? ` (${letters})` : "", ` ${type} `, ...value);
+}
+
+function changeItem(change) {
+    const {number} = change;
+    const moves = movesOf(change);
+    const by = trail[number];
+    const who = by ? [make("p", {class: "soft"}, [by.person && by.person !== by.caller ? `${by.person} (${by.caller})` : by.caller, dateTime(by.time)].join(", "),
+        ...(by.id && !by.id.startsWith("page-") ? [" ", code(by.id)] : []))] : [];
+    const more = moves.length > MOST_LINES ? [make("li", {}, t("andMore", moves.length - MOST_LINES))] : [];
+    const revert = moves.length ? [button(t("revert"), () => revertChange(change), {"aria-label": t("revertLabel", number)})] : [];
+    return make("li", {}, make("h3", {tabindex: "-1"}, t("changeNumber", number)), ...who,
+        moves.length ? make("ul", {class: "difference"}, ...moves.slice(0, MOST_LINES).map(moveItem), ...more) : make("p", {class: "soft"}, t("serialOnly")), ...revert);
+}
+
+export function showChanges() {
+    const words = $("changes-filter").value.toLowerCase().split(/\s+/).filter(Boolean);
+    const text = ({removed, added, number}) => [...removed, ...added, ...[trail[number]?.caller, trail[number]?.person].filter(Boolean)].join("\n").toLowerCase();
+    const found = words.length ? changes.filter((change) => words.every((word) => text(change).includes(word))) : changes;
+    $("changes-list").replaceChildren(...found.slice(-shown).reverse().map(changeItem));
+    $("changes-more").hidden = found.length <= shown && ((changes[0]?.number ?? 1) === 1 || words.length > 0);
+}
+
+/** The opposite of a change, as edits that are guarded by what is there now. What is not as it was made is left alone. */
+async function revertChange(change) {
+    const edits = [];
+    const skipped = [];
+    for (const {old, now} of movesOf(change)) {
+        const there = now && state.zone.find(now);
+        if (now && !there) {
+            skipped.push(now.name);
+        } else if (!now && state.zone.find(old)) {
+            skipped.push(old.name);
+        } else {
+            edits.push({...(there && {old: there}), ...(old && {now: old})});
+        }
+    }
+    if (edits.length) {
+        putIn(edits, {group: `revert ${change.number}`});
+        location.hash = "review";
+    }
+    say(skipped.length ? t("revertSkipped", edits.length, [...new Set(skipped)].slice(0, 5).join(", ")) : t("revertReady", edits.length));
+}
+
+async function showOlder() {
+    const there = $("changes-list").childElementCount;
+    if (shown >= changes.length && (changes[0]?.number ?? 1) > 1) {
+        const first = changes[0].number;
+        const list = await readList(`changes/${Math.max(1, first - 100)}`, "changes");
+        changes.unshift(...(list ?? []).filter(({number}) => number < first));
+    }
+    shown += PAGE;
+    showChanges();
+    $("changes-list").children[there]?.querySelector("h3").focus();
+}
+
+export function startHistory() {
+    $("changes-again").addEventListener("click", () => readChanges());
+    $("changes-all").addEventListener("click", () => readChanges(true));
+    $("changes-more").addEventListener("click", showOlder);
+    $("changes-filter").addEventListener("input", afterTyping(showChanges, 150));
+}
