@@ -127,11 +127,17 @@ class _Into:  # pylint: disable=too-few-public-methods
         """No check: an office has its own."""
 
 
+def _is_known(kind: dns.rdatatype.RdataType) -> bool:
+    """Whether dnspython has a form of its own for data of a type."""
+    known = dns.rdata.get_rdata_class(dns.rdataclass.IN, kind)  # type: ignore[no-untyped-call]
+    return known is not dns.rdata.GenericRdata
+
+
 def _presented(found: re.Match[str]) -> str:
     """A record of RFC 3597's form in its own, if its type is known: the reader takes names in such data for relative ones."""
     try:
         kind, data = dns.rdatatype.from_text(found["type"]), bytes.fromhex(found["data"])
-        if len(data) != int(found["length"]) or dns.rdata.get_rdata_class(dns.rdataclass.IN, kind) is dns.rdata.GenericRdata:
+        if len(data) != int(found["length"]) or not _is_known(kind):
             return found[0]
         text = dns.rdata.from_wire(dns.rdataclass.IN, kind, data, 0, len(data)).to_text()
     except (dns.exception.DNSException, ValueError):
