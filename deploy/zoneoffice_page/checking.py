@@ -8,6 +8,7 @@ import contextlib
 import ipaddress
 import json
 import os
+import socket
 import sys
 import threading
 import time
@@ -39,6 +40,8 @@ AT_ONCE = 8
 ADDRESSES, KEYS = 4, 32
 WORST = "no address", "silent", "refused", "lame", "ok"  # of several addresses the worst counts
 
+NOBODY = ipaddress.ip_network("0.0.0.0/8"), ipaddress.ip_network("255.255.255.255/32")
+
 Address = ipaddress.IPv4Address | ipaddress.IPv6Address
 
 
@@ -46,7 +49,7 @@ class Spent(Exception):
     """The run, an address or a network has had its questions."""
 
 
-class Budget:
+class Budget:  # pylint: disable=too-few-public-methods
     """How many questions there may be, to whom, and how often."""
 
     def __init__(self) -> None:
@@ -76,9 +79,8 @@ def may_be_asked(address: Address) -> bool:
     mapped = address.ipv4_mapped if isinstance(address, ipaddress.IPv6Address) else None
     if mapped:
         return may_be_asked(mapped)
-    return not (address.is_loopback or address.is_link_local or address.is_multicast or address.is_unspecified
-                or address in ipaddress.ip_network("0.0.0.0/8") or str(address) == "255.255.255.255") \
-        if address.version == 4 else not (address.is_loopback or address.is_link_local or address.is_multicast or address.is_unspecified)
+    is_special = address.is_loopback or address.is_link_local or address.is_multicast or address.is_unspecified
+    return not (is_special or any(address in network for network in NOBODY))
 
 
 class Checker:
@@ -182,7 +184,6 @@ class Checker:
 
 def is_reachable(address: Address) -> bool:
     """Whether this machine has a way to an address: without IPv6, say, it has none to such. Nothing is sent."""
-    import socket  # pylint: disable=import-outside-toplevel
     with socket.socket(socket.AF_INET if address.version == 4 else socket.AF_INET6, socket.SOCK_DGRAM) as one:
         try:
             one.connect((str(address), 53))
@@ -229,7 +230,8 @@ def check(wanted_path: str, folder: str, port: int = 53) -> int:
 def checked(wanted: dict[str, dict[str, Any]], old: dict[str, dict[str, Any]], checker: Checker) -> dict[str, dict[str, Any]]:
     """What is found of the delegations that are wanted: of those that were not checked now, what was found before."""
     found = {zone: {child: old[zone][child] for child in children if child in old.get(zone, {})} for zone, children in wanted.items()}
-    todo = sorted((str(found[zone].get(child, {}).get("checked", "")), zone, child) for zone, children in wanted.items() for child in children)
+    todo = sorted((str(found[zone].get(child, {}).get("checked", "")), zone, child)
+                  for zone, children in wanted.items() for child in children)
     with concurrent.futures.ThreadPoolExecutor(AT_ONCE) as pool:
         runs = {pool.submit(checker.check, child, wanted[zone][child]): (zone, child) for _, zone, child in todo[:CHILDREN]}
         for done in concurrent.futures.as_completed(runs):

@@ -34,7 +34,7 @@ class Damaged(Exception):
 
 
 @dataclasses.dataclass
-class Made:
+class Made:  # pylint: disable=invalid-name
     """Who made a change and when, as far as the audit trail says."""
     caller: str
     person: str
@@ -85,7 +85,7 @@ def pairs_of(change: Change) -> list[Pair]:
     return list(found)
 
 
-class History:  # pylint: disable=too-many-instance-attributes
+class History:  # pylint: disable=too-many-instance-attributes,attribute-defined-outside-init
     """The changes of a zone."""
 
     def __init__(self, folder: Folder, zone: str) -> None:

@@ -85,7 +85,7 @@ class Asked:
         return any(not exactly or not one or same_data(key[1], one, data) for one in self.deletes.get(key, []))
 
 
-class Seen:
+class Seen:  # pylint: disable=too-few-public-methods
     """A change as it is compared with updates: without the SOA of which only the serial moved."""
 
     def __init__(self, change: Pending) -> None:

@@ -15,23 +15,23 @@ Labels = tuple[bytes, ...]
 def labels(name: str) -> Labels:
     """The labels of an absolute name (docs/formats.md), from the root down, in lower case; ValueError if it is none."""
     found: list[bytes] = []
-    label, octets, at = bytearray(), name.encode(), 0
+    label, octets, place = bytearray(), name.encode(), 0
     if octets == b".":
         return ()
-    while at < len(octets):
-        if octets[at] == ord("\\") and octets[at + 1:at + 4].isdigit() and at + 3 < len(octets):
-            label.append(int(octets[at + 1:at + 4]))
-            at += 4
-        elif octets[at] == ord("\\"):
-            label += octets[at + 1:at + 2]
-            at += 2
-        elif octets[at] == ord("."):
+    while place < len(octets):
+        if octets[place] == ord("\\") and octets[place + 1:place + 4].isdigit() and place + 3 < len(octets):
+            label.append(int(octets[place + 1:place + 4]))
+            place += 4
+        elif octets[place] == ord("\\"):
+            label += octets[place + 1:place + 2]
+            place += 2
+        elif octets[place] == ord("."):
             found.append(bytes(label).lower())
             label.clear()
-            at += 1
+            place += 1
         else:
-            label.append(octets[at])
-            at += 1
+            label.append(octets[place])
+            place += 1
     if label or not found or not all(0 < len(one) < 64 for one in found):
         raise ValueError(f"{name} is no absolute name")
     return tuple(reversed(found))

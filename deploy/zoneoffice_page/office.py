@@ -141,24 +141,25 @@ class Office:
 
 def objects(response: http.client.HTTPResponse) -> Iterator[dict[str, Any]]:
     """The objects of a list of changes, each as soon as it is there."""
-    decoder, text, at, begun = json.JSONDecoder(), "", 0, False
+    decoder, text, place, begun = json.JSONDecoder(), "", 0, False
     while piece := response.read(PIECE):
-        text = text[at:] + piece.decode("utf-8", "replace")
-        at = 0
+        text = text[place:] + piece.decode("utf-8", "replace")
+        place = 0
         if not begun:
             if not text.startswith(HEAD):
                 raise Away("the office answers with what are no changes")
-            at, begun = len(HEAD), True
-        while at < len(text):
+            place, begun = len(HEAD), True
+        while place < len(text):
+            place += text[place] == ","
             try:
-                value, end = decoder.raw_decode(text, at)
+                value, end = decoder.raw_decode(text, place)
             except (ValueError, RecursionError):
                 break  # the rest comes with the next piece, or this is the end
             if not isinstance(value, dict):
                 raise Away("the office answers with what are no changes")
             yield value
-            at = end + 1 if text[end:end + 1] == "," else end
-        if len(text) - at > LONGEST:
+            place = end
+        if len(text) - place > LONGEST:
             raise Away(f"a change has more than {LONGEST} octets")
-    if not begun or text[at:] != "]}":
+    if not begun or text[place:] != "]}":
         raise Away("the answer of the office is cut short")

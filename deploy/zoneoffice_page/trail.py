@@ -25,7 +25,7 @@ ROUTE = re.compile(r"(?:/as/[^/]+)?/zones/([^/]+)/(updates|delegations)")
 
 
 @dataclasses.dataclass
-class Operation:
+class Operation:  # pylint: disable=invalid-name
     """An operation of an update. What it leaves out is empty."""
     op: str
     name: str
@@ -34,7 +34,7 @@ class Operation:
 
 
 @dataclasses.dataclass
-class Update:
+class Update:  # pylint: disable=invalid-name
     """A line of the trail that asks for an update, as it came first. Its operations are None where the trail has no bodies."""
     zone: str
     when: float

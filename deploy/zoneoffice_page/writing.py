@@ -38,7 +38,7 @@ class Settings:  # pylint: disable=too-many-instance-attributes
     zones: list[str] = dataclasses.field(default_factory=list)
 
 
-class Run:
+class Run:  # pylint: disable=too-many-instance-attributes
     """A run. What fails is reported, and the rest goes on."""
 
     def __init__(self, settings: Settings, state: Folder) -> None:

@@ -117,11 +117,12 @@ def chapters_of_formats():
 # Routes and refusals over HTTP
 
 def routes_of_openapi():
+    """The office's routes; the files of the page are the front server's."""
     found, path = [], None
     for line in read("docs", "openapi.yaml").splitlines():
         path = (re.match(r"  (/\S+):$", line) or [None, path])[1]
         method = re.match(r"    (get|post|put|delete|patch|head):$", line)
-        if method:
+        if method and not path.startswith("/page/"):
             found.append(f"{method[1].upper()} {path}")
     yield from differing("docs/openapi.yaml", "the paths", found, [f"{one.method} {one.path}" for one in sources.routes()])
 
