@@ -8,7 +8,7 @@ from typing import Any
 from .telling import clean
 
 HERE = os.path.dirname(os.path.dirname(os.path.realpath(__file__)))
-PLACES = HERE, os.path.join(HERE, "../web")  # beside the modules, and in the sources
+PLACES = HERE, os.path.join(HERE, os.pardir, "web")  # beside the modules, and in the sources
 
 
 @functools.cache
