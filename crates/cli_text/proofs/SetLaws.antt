@@ -160,10 +160,13 @@ sets_tested old new is_old is_new same p con =
               f.first,
               inr here,
               comer_changes old.origin old.records new.records z n f.first here both.1,
-              subst (IsTestFor f.first) (sym none.1) (refl, (elim (types_tested old.origin old.records new.records z n f.first here both.1 none.0 none.3) [
-                | inl own ↦ inl own
-                | inr more ↦ (elim more [ inl beside ↦ inr (inl beside.0) | inr alias ↦ inr (inr alias) ])
-              ])),
+              subst (IsTestFor f.first) (sym none.1) (
+                refl,
+                (elim (types_tested old.origin old.records new.records z n f.first here both.1 none.0 none.3) [
+                  | inl own ↦ inl own
+                  | inr more ↦ (elim more [ inl beside ↦ inr (inl beside.0) | inr alias ↦ inr (inr alias) ])
+                ]),
+              ),
             ))
       ])
     ])

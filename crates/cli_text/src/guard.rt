@@ -160,9 +160,7 @@ fn lacking(alloc: Global, zone: &Zone, name: &Name) -> Result<Vec<RecordType>, A
 {
     let types = RecordType::ALL.iter().copied();
     types
-        .filter(|record_type| {
-            is_below_origin(*record_type) && lacks(zone, name, *record_type)
-        })
+        .filter(|record_type| { is_below_origin(*record_type) && lacks(zone, name, *record_type) })
         .collect(alloc)
 }
 
