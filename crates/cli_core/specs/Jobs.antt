@@ -1,5 +1,5 @@
 -- The jobs: what each command has for its arguments.
-use Rattle.std.specs.Prelude.{Bool, true, false, List, [], ◌∷◌, None, option_map, codes}
+use Rattle.std.specs.Prelude.{Bool, true, false, List, [], ◌∷◌, Option, Some, None, option_map, codes}
 use Rattle.clap.specs.Words.{Text}
 use Rattle.cli_core.specs.Values.{Given, text, number, flag, given}
 use Rattle.cli_core.specs.declared.argument.Argument.TheVariants as argument
@@ -13,6 +13,7 @@ use Rattle.cli_core.specs.declared.job.TextForm.{TextForm}
 use Rattle.cli_core.specs.declared.job.TextForm.TheVariants.{Plain, Json}
 use Rattle.cli_core.specs.declared.job.DiffForm.{DiffForm}
 use Rattle.cli_core.specs.declared.job.DiffForm.TheVariants.{Bare, Guarded}
+use Rattle.cli_core.specs.declared.job.GuardScope.TheVariants.{Names, Sets}
 use Rattle.cli_core.specs.declared.job.ZoneForm.{ZoneForm}
 use Rattle.cli_core.specs.declared.job.ZoneForm.TheVariants.{Whole, Relative}
 use Rattle.cli_core.specs.declared.job.RequestForm.{RequestForm}
@@ -39,7 +40,20 @@ is_relative Relative = true
 
 abbrev pub is_guarded : DiffForm → Bool
 is_guarded Bare = false
-is_guarded Guarded = true
+is_guarded (Guarded Names) = true
+is_guarded (Guarded Sets) = false
+
+abbrev pub is_guarded_by_sets : DiffForm → Bool
+is_guarded_by_sets Bare = false
+is_guarded_by_sets (Guarded Names) = false
+is_guarded_by_sets (Guarded Sets) = true
+
+-- the form of two flags, of which only one is given
+abbrev pub form_by : Bool → Bool → Option DiffForm
+form_by false false = Some Bare
+form_by true false = Some (Guarded Names)
+form_by false true = Some (Guarded Sets)
+form_by true true = None
 
 abbrev pub is_json : TextForm → Bool
 is_json Plain = false
@@ -76,7 +90,7 @@ asks_text text_job.Apply = (command.Apply, [])
 asks_text (text_job.Canon w) = (command.Canon, (argument.Origin, given w.origin.now) ∷ (argument.Relative, flag (is_relative w.form)) ∷ [])
 asks_text (text_job.Diff w) = (
   command.Diff,
-  (argument.Origin, given w.origin.now) ∷ (argument.Guard, flag (is_guarded w.form))
+  (argument.Origin, given w.origin.now) ∷ (argument.Guard, flag (is_guarded w.form)) ∷ (argument.GuardSets, flag (is_guarded_by_sets w.form))
       ∷ (argument.Old, given w.files.old.now) ∷ (argument.New, given w.files.new.now) ∷ [],
 )
 asks_text (text_job.Request w) = (command.Request, request_values w.form w.id.now)

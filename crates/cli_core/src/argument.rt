@@ -33,6 +33,7 @@ pub enum Argument {
     Not,
     Json,
     Guard,
+    GuardSets,
     Old,
     New,
     Id,
@@ -192,6 +193,11 @@ impl Argument {
                 name: "guard",
                 form: Form::Flag,
                 help: "With prerequisites that nobody changed the sets",
+            },
+            Argument::GuardSets => &Row {
+                name: "guard-sets",
+                form: Form::Flag,
+                help: "The same without tests of whole names; also --guard=sets",
             },
             Argument::Old => &Row {
                 name: "old",

@@ -76,7 +76,16 @@ pub enum DiffForm {
     /// The operations alone.
     Bare,
     /// Before them prerequisites: that the record sets that they change are as in the old zone.
-    Guarded,
+    Guarded(GuardScope),
+}
+
+/// What the prerequisites of a diff test.
+#[derive(Clone, Copy)]
+pub enum GuardScope {
+    /// The record sets that change, and of a name that the old zone does not use that nobody uses it.
+    Names,
+    /// The record sets that change, and what would keep out a set that comes.
+    Sets,
 }
 
 /// As how many bodies an update is printed.

@@ -58,7 +58,8 @@ fn job_in<'a>(words: &[&str], matches: &ArgMatches<'a>) -> Option<Job<'a>>
 /// What is wrong with words that name no job, though clap takes them.
 fn mistake_in(matches: &ArgMatches<'_>) -> &'static str {
     match matches.subcommand() {
-        Some(("diff", _)) => "only one of OLD and NEW can be -, which is standard input",
+        Some(("diff", _)) =>
+            "only one of OLD and NEW can be -, which is standard input, and only one kind of --guard is given",
         Some(("request", _)) => "one of --id and --split is needed, and only one of them",
         _ => "the words name no job: see the example of zoneoffice COMMAND --help",
     }
@@ -116,7 +117,7 @@ fn reported(alloc: Global, words: &[&str], error: Error) -> WordsFault
 }
 
 /// The job that the words behind the program's name ask for: none or `apply`; `canon --origin NAME [--relative]`;
-/// `diff --origin NAME [--guard] OLD NEW`, where only one of the two can be `-`; `request (--id ID | --split ID)`;
+/// `diff --origin NAME [--guard | --guard-sets] OLD NEW`, where only one of the two can be `-`; `request (--id ID | --split ID)`;
 /// `import --store PATH --origin NAME [--replace]`; `export --store PATH --origin NAME [--relative]`; `zones --store PATH`;
 /// `log --store PATH --origin NAME [--from N] [--name NAME] [--caller CALLER]`; `migrate --store PATH`;
 /// `rights --policy PATH --caller CALLER NAME TYPE ACTION`; `plan --policy PATH --caller CALLER`;

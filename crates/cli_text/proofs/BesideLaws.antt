@@ -31,10 +31,22 @@ use Rattle.zone_tools.proofs.DiffListLemmas.{effects-append, left_in, retimed, s
 use Rattle.zone_tools.proofs.DiffLeadLemmas.{IsGone, IsOther, IsServer, are_gone, are_others, are_servers, server_off}
 use Rattle.zone_tools.proofs.DiffAddLemmas.{Free}
 use Rattle.zone_core.proofs.LeaveLemmas.{advanced_there}
+use Rattle.cli_core.specs.declared.job.GuardScope.{GuardScope}
 use Rattle.cli_text.specs.Guards.{are_equal, changes_set, guards_of, lacks}
 use Rattle.cli_text.specs.GuardPromises.{HasThere, HaveSameSet}
 use Rattle.cli_text.proofs.GuardLaws.{among_all, guards_make_room, guards_tell, none_among, none_stands, some_stands}
 use Rattle.cli_text.proofs.OperationLaws.{gone_changes, next_is_soa, ops_are, other_changes, server_changes, soas}
+
+-- ---- aliases
+
+-- no SOA of another zone of the origin is at the name of an alias
+pub alias_below : (origin : List (List ℕ)) (new now : Records) (n : Keys origin new) (w : Keys origin now) (r s : Record) → IsIn r new → IsIn s now
+    → type_of r.rdata ≡ types.Cname → s.owner ≡ r.owner → type_of s.rdata ≢ types.Soa
+alias_below origin new now n w r s here there alias owner soa =
+    let home : r.owner ≡ origin = sym owner ∙ ap (λ (k : Key). k.0) (w.soa_alone (key_of s) (s, there) (ap rank_of soa)) ∙ w.soa_origin in
+    let same = n.rows.cnames (key_of r) n.soa (r, here) n.soa_there (ap rank_of alias) (n.soa_origin ∙ sym home) in
+    let clash : rank_of types.Cname ≡ rank_of types.Soa = sym (ap rank_of alias) ∙ ap (λ (k : Key). k.1) (sym same) ∙ n.soa_type in
+    absurd cc
 
 -- ---- lists that name keys
 
@@ -219,7 +231,7 @@ both_bare (x ∷ xs) ys e f = absurd (none_among (x ∷ xs) x e (inl refl))
 
 -- ---- the operations
 
-module _ (origin : List (List ℕ)) (old new now : Records) (z : Keys origin old) (n : Keys origin new) (w : Keys origin now) (met : AreMet now (guards_of old new (operations origin old new))) where
+module _ (origin : List (List ℕ)) (old new now : Records) (z : Keys origin old) (n : Keys origin new) (w : Keys origin now) (scope : GuardScope) (met : AreMet now (guards_of scope old new (operations origin old new))) where
   abbrev ops : List Operation
   ops = operations origin old new
 
@@ -252,7 +264,7 @@ module _ (origin : List (List ℕ)) (old new now : Records) (z : Keys origin old
   told : (name : List (List ℕ)) (t : RecordType) → is_off t ≡ false → moves name t ≡ true → (k : Key) → k.0 ≡ name → k.1 ≡ rank_of t → There now k ↔ There old k
   told name t off e k owner rank =
       let x = seen name t off e in
-      let same = guards_tell old new now ops z.rows.kept n.rows.kept met x.one x.here ((λ i. moves (x.owner i) (x.type i)) ∙ e) in
+      let same = guards_tell scope old new now ops z.rows.kept n.rows.kept met x.one x.here ((λ i. moves (x.owner i) (x.type i)) ∙ e) in
       let home : k.0 ≡ x.one.owner = owner ∙ sym x.owner in
       let kind_is : k.1 ≡ rank_of (type_of x.one.rdata) = rank ∙ ap rank_of (sym x.type) in (
         there_by now old w.rows.kept x.one (λ d. (same d).0) k home kind_is,
@@ -420,7 +432,7 @@ module _ (origin : List (List ℕ)) (old new now : Records) (z : Keys origin old
     of_none none =
         by_cases (lacks old r.owner (type_of r.rdata)) ⊥
         (λ fresh.
-        let room = guards_make_room old new now ops z.rows.kept n.rows.kept met alone r r_in (none_stands old z.rows.kept r.owner (type_of r.rdata) fresh) in
+        let room = guards_make_room scope old new now ops z.rows.kept n.rows.kept met alone (alias_below origin new now n w) r r_in (none_stands old z.rows.kept r.owner (type_of r.rdata) fresh) in
         by_cases (is_cname (key_of r)) ⊥
         (λ alias.
         let found = room.alias (is_kind r types.Cname alias) x x_in name in

@@ -27,7 +27,7 @@ use Rattle.cli_text.specs.Guards.{changes_set}
 use Rattle.cli_text.specs.GuardPromises.{HaveSameSet}
 use Rattle.cli_text.proofs.GuardLaws.{each_guard, guards_make_room, guards_met, guards_tell}
 use Rattle.cli_text.proofs.OperationLaws.{each_tells, none_asked, none_needed}
-use Rattle.cli_text.proofs.BesideLaws.{made_beside}
+use Rattle.cli_text.proofs.BesideLaws.{alias_below, made_beside}
 
 -- ---- no more than one SOA is added
 
@@ -82,10 +82,10 @@ module _ (old new : ZoneOf) (is_old : IsZone old) (is_new : IsZone new) (same : 
   abbrev ops : List Operation
   ops = operations old.origin old.records new.records
 
-  old_keys : Keys old.origin old.records
+  pub old_keys : Keys old.origin old.records
   old_keys = keys_of old.origin old.records is_old
 
-  new_keys : Keys old.origin new.records
+  pub new_keys : Keys old.origin new.records
   new_keys = subst (λ o. Keys o new.records) same (keys_of new.origin new.records is_new)
 
   within : AreWithin old.origin ops
@@ -96,19 +96,19 @@ module _ (old new : ZoneOf) (is_old : IsZone old) (is_new : IsZone new) (same : 
 
   are_prerequisites : (form : DiffForm) → AllByRecursion IsPrerequisite (prerequisites_in form old new ops)
   are_prerequisites Bare = tt
-  are_prerequisites Guarded =
-      each_guard old.records new.records ops is_old.kept is_new.kept IsPrerequisite (λ r here. let is = (is_old.kept (key_of r) r here).1 in (is.owner, is.rdata))
+  are_prerequisites (Guarded scope) =
+      each_guard scope old.records new.records ops is_old.kept is_new.kept IsPrerequisite (λ r here. let is = (is_old.kept (key_of r) r here).1 in (is.owner, is.rdata))
       (λ r here. let owner = (is_new.kept (key_of r) r here).1.owner in (owner, λ t. owner))
 
   test_within : (form : DiffForm) → AllByRecursion (λ p. IsWithin (tested_name p) old.origin) (prerequisites_in form old new ops)
   test_within Bare = tt
-  test_within Guarded =
-      each_guard old.records new.records ops is_old.kept is_new.kept (λ p. IsWithin (tested_name p) old.origin) (λ r here. is_old.owners r here)
+  test_within (Guarded scope) =
+      each_guard scope old.records new.records ops is_old.kept is_new.kept (λ p. IsWithin (tested_name p) old.origin) (λ r here. is_old.owners r here)
       (λ r here. let owner = subst (λ o. IsWithin r.owner o) same (is_new.owners r here) in (owner, λ t. owner))
 
   are_met : (form : DiffForm) → AreMet old.records (prerequisites_in form old new ops)
   are_met Bare = tt
-  are_met Guarded = guards_met old.records new.records ops is_old.kept
+  are_met (Guarded scope) = guards_met scope old.records new.records ops is_old.kept
 
   acts : (form : DiffForm) → ActsWithin old.origin (update_in form old new)
   acts form = record { prerequisites = test_within form; operations = are_within old.origin ops within }
@@ -137,22 +137,23 @@ diffs_lead old new is_old is_new same = leads old new is_old is_new same
 
 pub diffs_met : DiffsAreMet
 diffs_met Bare old new is_old is_new = tt
-diffs_met Guarded old new is_old is_new = guards_met old.records new.records (operations old.origin old.records new.records) is_old.kept
+diffs_met (Guarded scope) old new is_old is_new = guards_met scope old.records new.records (operations old.origin old.records new.records) is_old.kept
 
 pub diffs_tell : DiffsTell
-diffs_tell old new now m =
-    guards_tell old.records new.records now.records (operations old.origin old.records new.records) m.is_old.kept m.is_new.kept m.met
+diffs_tell scope old new now m =
+    guards_tell scope old.records new.records now.records (operations old.origin old.records new.records) m.is_old.kept m.is_new.kept m.met
 
 pub diffs_have_room : DiffsHaveRoom
-diffs_have_room old new now m =
-    guards_make_room old.records new.records now.records (operations old.origin old.records new.records) m.is_old.kept m.is_new.kept m.met m.is_new.cnames
+diffs_have_room scope old new now m =
+    guards_make_room scope old.records new.records now.records (operations old.origin old.records new.records) m.is_old.kept m.is_new.kept m.met m.is_new.cnames
+    (alias_below old.origin new.records now.records (new_keys old new m.is_old m.is_new m.new_origin) (subst (λ o. Keys o now.records) m.now_origin (keys_of now.origin now.records m.is_now)))
 
 pub operations_tell : OperationsTell
-operations_tell old new now m =
-    each_tells old.origin old.records new.records (old_keys old new m.is_old m.is_new m.new_origin) (new_keys old new m.is_old m.is_new m.new_origin) now.records m.met
+operations_tell scope old new now m =
+    each_tells old.origin old.records new.records (old_keys old new m.is_old m.is_new m.new_origin) (new_keys old new m.is_old m.is_new m.new_origin) scope now.records m.met
 
 pub diffs_made_beside : DiffsAreMadeBeside
-diffs_made_beside old new now m r other =
+diffs_made_beside scope old new now m r other =
     let all : List Operation = operations old.origin old.records new.records in
     let first = old_keys old new m.is_old m.is_new m.new_origin in
     let second = new_keys old new m.is_old m.is_new m.new_origin in
@@ -161,12 +162,12 @@ diffs_made_beside old new now m r other =
     let few = one_added old.origin old.records _ all (operations_soa old.origin old.records new.records first second) in
     let heir = effects_heir old.origin now.records third all (are_operations old.origin all inside) (are_within old.origin all inside) few in
     subst (λ o. HaveSameSet (serial_advanced o now.records (effects o now.records all)) (if changes_set old.records new.records all r then new.records else now.records) r) (sym m.now_origin)
-    (made_beside old.origin old.records new.records now.records first second third m.met heir r other)
+    (made_beside old.origin old.records new.records now.records first second third scope m.met heir r other)
 
 pub operations_guarded : OperationsAreGuarded
-operations_guarded old new is_old is_new same = (
-  none_needed old.origin old.records new.records (old_keys old new is_old is_new same) (new_keys old new is_old is_new same),
-  none_asked old.origin old.records new.records (old_keys old new is_old is_new same) (new_keys old new is_old is_new same),
+operations_guarded scope old new is_old is_new same = (
+  none_needed old.origin old.records new.records (old_keys old new is_old is_new same) (new_keys old new is_old is_new same) scope,
+  λ none. none_asked old.origin old.records new.records (old_keys old new is_old is_new same) (new_keys old new is_old is_new same) none scope,
 )
 
 pub diffs_applied : DiffsAreApplied

@@ -27,7 +27,8 @@ use Rattle.zone_core.proofs.RowLemmas.{get-set_of, each_in, choice, listing-part
 use Rattle.zone_core.proofs.SetLemmas.{by_cases, name_is, name_self, key_self, found_in_part, found_of_part, get-part, same_sets}
 use Rattle.zone_core.proofs.ChangedLemmas.{listed, kept_in_part}
 use Rattle.zone_core.proofs.ZoneLemmas.{at_has, at_is, both_true, is_kind, kind, no}
-use Rattle.cli_text.specs.Guards.{set_like, begins_with, are_equal, changes_set, changed_firsts, is_unused, lacks, is_new, new_firsts, is_first, is_this, comes_first, there, absent, types_absent, not_there, guards_of}
+use Rattle.cli_core.specs.declared.job.GuardScope.{GuardScope}
+use Rattle.cli_text.specs.Guards.{set_like, begins_with, are_equal, changes_set, changed_firsts, is_unused, lacks, is_below_origin, is_new, new_firsts, is_first, is_this, comes_first, tests_names, tests_name, there, absent, types_absent, not_there, guards_of}
 use Rattle.cli_text.specs.GuardPromises.{HaveSameSet, IsOfNoSet, HasRoom}
 
 -- ---- elements of lists
@@ -36,7 +37,7 @@ pub among_all : {X : Type 0} (P : X → Type 0) (xs : List X) (x : X) → AllByR
 among_all P [] x all a = absurd a
 among_all P (y ∷ ys) x all a = (elim a [ inl e ↦ subst P (sym e) all.0 | inr later ↦ among_all P ys x all.1 later ])
 
-all_among : {X : Type 0} (P : X → Type 0) (xs : List X) → ((x : X) → Among x xs → P x) → AllByRecursion P xs
+pub all_among : {X : Type 0} (P : X → Type 0) (xs : List X) → ((x : X) → Among x xs → P x) → AllByRecursion P xs
 all_among P [] each = tt
 all_among P (x ∷ xs) each = (each x (inl refl), all_among P xs (λ y a. each y (inr a)))
 
@@ -102,6 +103,13 @@ heads {X} p q (y ∷ ys) g e t wider = by_tests (p y) (q y) refl refl e (λ late
     by_tests true false f h is more = absurd (let same : y ≡ g = cc in no (q y) (ap q same ∙ t) h)
     by_tests false true f h is more = absurd (no (p y) (wider y h) f)
     by_tests false false f h is more = more is
+
+-- ---- types
+
+-- every type but SOA
+pub below_origin : (t : RecordType) → t ≢ types.Soa → is_below_origin t ≡ true
+below_origin types.Soa other = absurd (other refl)
+below_origin t other = refl
 
 -- ---- records of a set
 
@@ -201,9 +209,9 @@ first_like set kept r here = by_rows (set_like set r) refl (stands_like set kept
 
 -- ---- the prerequisites
 
-module _ (old new : Records) (ops : List Operation) (kept : AreKept old) where
+module _ (scope : GuardScope) (old new : Records) (ops : List Operation) (kept : AreKept old) where
   abbrev all : List Prerequisite
-  all = guards_of old new ops
+  all = guards_of scope old new ops
 
   abbrev pub firsts : List Record
   firsts = changed_firsts old new ops
@@ -232,7 +240,8 @@ module _ (old new : Records) (ops : List Operation) (kept : AreKept old) where
   pub record Free (p : Prerequisite) : Type 0 where
     pub first : Record
     pub among : Among first comers
-    pub is : ((p ≡ NameUnused first.owner) × (is_unused old first.owner ≡ true)) ⊎ ((t : RecordType) × (p ≡ absent first.owner t) × (lacks old first.owner t ≡ true))
+    pub is : ((p ≡ NameUnused first.owner) × (tests_name scope old first.owner ≡ true))
+        ⊎ ((t : RecordType) × (p ≡ absent first.owner t) × (lacks old first.owner t ≡ true) × Among t (types_absent old new first))
 
   pub is_comer : (r : Record) → Among r comers → Among r (listing new) × (is_new old r ≡ true)
   is_comer r a = let both = among_filter (λ s. is_first new s && is_new old s) (listing new) r a in (both.0, (and_parts (is_first new r) (is_new old r) both.1).1)
@@ -241,29 +250,29 @@ module _ (old new : Records) (ops : List Operation) (kept : AreKept old) where
   lacks_each r t fresh a = by_alias (is_cname (key_of r)) (lacks old r.owner types.Cname && comes_first old new r) refl a
     where
       by_alias : (b c : Bool) → (lacks old r.owner types.Cname && comes_first old new r) ≡ c
-          → Among t (if b then filter (lacks old r.owner) kept_types else (if c then type_of r.rdata ∷ types.Cname ∷ [] else type_of r.rdata ∷ [])) → lacks old r.owner t ≡ true
-      by_alias true c e h = (among_filter (lacks old r.owner) kept_types t h).1
+          → Among t (if b then filter (λ u. is_below_origin u && lacks old r.owner u) kept_types else (if c then type_of r.rdata ∷ types.Cname ∷ [] else type_of r.rdata ∷ [])) → lacks old r.owner t ≡ true
+      by_alias true c e h = (and_parts (is_below_origin t) (lacks old r.owner t) (among_filter (λ u. is_below_origin u && lacks old r.owner u) kept_types t h).1).1
       by_alias false true e h = (elim h [
         | inl same ↦ ap (lacks old r.owner) same ∙ fresh
         | inr more ↦ (elim more [ inl same ↦ ap (lacks old r.owner) same ∙ (and_parts (lacks old r.owner types.Cname) (comes_first old new r) e).0 | inr none ↦ absurd none ])
       ])
       by_alias false false e h = (elim h [ inl same ↦ ap (lacks old r.owner) same ∙ fresh | inr none ↦ absurd none ])
 
-  free : (p : Prerequisite) → Among p (flat_map (not_there old new) comers) → Free p
+  free : (p : Prerequisite) → Among p (flat_map (not_there scope old new) comers) → Free p
   free p a =
-      let found = (among_flat (not_there old new) comers p).0 a in
-      by_use found.0 found.1 (is_unused old found.0.owner) (comes_first old new found.0) refl found.2
+      let found = (among_flat (not_there scope old new) comers p).0 a in
+      by_use found.0 found.1 (tests_name scope old found.0.owner) (comes_first old new found.0) refl found.2
     where
-      by_use : (r : Record) → Among r comers → (b c : Bool) → is_unused old r.owner ≡ b
+      by_use : (r : Record) → Among r comers → (b c : Bool) → tests_name scope old r.owner ≡ b
           → Among p (if b then (if c then NameUnused r.owner ∷ [] else []) else map (absent r.owner) (types_absent old new r)) → Free p
       by_use r among true true e h = (elim h [ inl same ↦ record { first = r; among = among; is = inl (same, e) } | inr none ↦ absurd none ])
       by_use r among true false e h = absurd h
       by_use r among false c e h =
           let one = (among_map (absent r.owner) (types_absent old new r) p).0 h in
-          record { first = r; among = among; is = inr (one.0, sym one.2, lacks_each r one.0 (is_comer r among).1 one.1) }
+          record { first = r; among = among; is = inr (one.0, sym one.2, lacks_each r one.0 (is_comer r among).1 one.1, one.1) }
 
   pub parts : (p : Prerequisite) → Among p all → Told p ⊎ Free p
-  parts p a = elim ((among_append (flat_map theirs firsts) (flat_map (not_there old new) comers) p).0 a) [ inl b ↦ inl (told p b) | inr b ↦ inr (free p b) ]
+  parts p a = elim ((among_append (flat_map theirs firsts) (flat_map (not_there scope old new) comers) p).0 a) [ inl b ↦ inl (told p b) | inr b ↦ inr (free p b) ]
 
   told_equals : (name : List (List ℕ)) (d : Data) → Among (RrsetEquals name d) all → Told (RrsetEquals name d)
   told_equals name d a = elim (parts (RrsetEquals name d) a) [
@@ -277,7 +286,7 @@ module _ (old new : Records) (ops : List Operation) (kept : AreKept old) where
   -- each record of such a set is told
   tells : (first s : Record) → Among first firsts → Stands old first.owner (type_of first.rdata) s → Among (there s) all
   tells first s a stands =
-      (among_append (flat_map theirs firsts) (flat_map (not_there old new) comers) (there s)).1
+      (among_append (flat_map theirs firsts) (flat_map (not_there scope old new) comers) (there s)).1
       (inl ((among_flat theirs firsts (there s)).1 (first, a, (among_map there (set_like old first) (there s)).1 (s, stands_like old kept first.owner (type_of first.rdata) s stands, refl))))
 
   met_equals : (name : List (List ℕ)) (d : Data) → Among (RrsetEquals name d) all → IsMet old all (RrsetEquals name d)
@@ -305,7 +314,7 @@ module _ (old new : Records) (ops : List Operation) (kept : AreKept old) where
   guards_met = all_among (IsMet old all) all (λ p a. elim (parts p a) [
     | inl t ↦ subst (IsMet old all) t.is (met_equals t.one.owner t.one.rdata (subst (λ (q : Prerequisite). Among q all) (sym t.is) a))
     | inr f ↦ (elim (f.is) [
-      | inl unused ↦ subst (IsMet old all) (sym unused.0) (none_owns old kept f.first.owner unused.1)
+      | inl unused ↦ subst (IsMet old all) (sym unused.0) (none_owns old kept f.first.owner (and_parts (tests_names scope) (is_unused old f.first.owner) unused.1).1)
       | inr none ↦ subst (IsMet old all) (sym none.1) (none_stands old kept f.first.owner none.0 none.2)
     ])
   ])
@@ -313,13 +322,13 @@ module _ (old new : Records) (ops : List Operation) (kept : AreKept old) where
 -- ---- what holds of each
 
 -- a fact on all prerequisites, from the records that they are of
-pub each_guard : (old new : Records) (ops : List Operation) → AreKept old → AreKept new → (P : Prerequisite → Type 0)
+pub each_guard : (scope : GuardScope) (old new : Records) (ops : List Operation) → AreKept old → AreKept new → (P : Prerequisite → Type 0)
     → ((r : Record) → IsIn r old → P (there r)) → ((r : Record) → IsIn r new → P (NameUnused r.owner) × ((t : RecordType) → P (absent r.owner t)))
-    → AllByRecursion P (guards_of old new ops)
-each_guard old new ops kept also P one other =
-    all_among P (guards_of old new ops) (λ p a. elim (parts old new ops kept p a) [
+    → AllByRecursion P (guards_of scope old new ops)
+each_guard scope old new ops kept also P one other =
+    all_among P (guards_of scope old new ops) (λ p a. elim (parts scope old new ops kept p a) [
       | inl t ↦ subst P t.is (one t.one t.stands.0)
-      | inr f ↦ (let both = other f.first (listed_in new also f.first (is_comer old new ops kept f.first f.among).0) in (elim (f.is) [
+      | inr f ↦ (let both = other f.first (listed_in new also f.first (is_comer scope old new ops kept f.first f.among).0) in (elim (f.is) [
         | inl unused ↦ subst P (sym unused.0) both.0
         | inr none ↦ subst P (sym none.1) (both.1 none.0)
       ]))
@@ -327,7 +336,7 @@ each_guard old new ops kept also P one other =
 
 -- ---- which sets come
 
-module _ (old new : Records) (ops : List Operation) (kept : AreKept old) (also : AreKept new) where
+module _ (scope : GuardScope) (old new : Records) (ops : List Operation) (kept : AreKept old) (also : AreKept new) where
   -- what comes at a name in new sets, first
   record Comer (r : Record) : Type 0 where
     first : Record
@@ -368,52 +377,53 @@ module _ (old new : Records) (ops : List Operation) (kept : AreKept old) (also :
   -- ---- what is asked of them
 
   abbrev asked : List Prerequisite
-  asked = guards_of old new ops
+  asked = guards_of scope old new ops
 
-  asks : (p : Prerequisite) (first : Record) → Among first (new_firsts old new) → Among p (not_there old new first) → Among p asked
+  asks : (p : Prerequisite) (first : Record) → Among first (new_firsts old new) → Among p (not_there scope old new first) → Among p asked
   asks p first among a =
-      (among_append (flat_map (λ r. map there (set_like old r)) (changed_firsts old new ops)) (flat_map (not_there old new) (new_firsts old new)) p).1
-      (inr ((among_flat (not_there old new) (new_firsts old new) p).1 (first, among, a)))
+      (among_append (flat_map (λ r. map there (set_like old r)) (changed_firsts old new ops)) (flat_map (not_there scope old new) (new_firsts old new)) p).1
+      (inr ((among_flat (not_there scope old new) (new_firsts old new) p).1 (first, among, a)))
 
-  asks_unused : (first : Record) → Among first (new_firsts old new) → is_unused old first.owner ≡ true → comes_first old new first ≡ true → Among (NameUnused first.owner) asked
+  asks_unused : (first : Record) → Among first (new_firsts old new) → tests_name scope old first.owner ≡ true → comes_first old new first ≡ true → Among (NameUnused first.owner) asked
   asks_unused first among e f =
-      let is : not_there old new first ≡ NameUnused first.owner ∷ [] =
+      let is : not_there scope old new first ≡ NameUnused first.owner ∷ [] =
       (λ i. if e i then (if f i then NameUnused first.owner ∷ [] else []) else map (absent first.owner) (types_absent old new first)) in
       asks (NameUnused first.owner) first among (subst (Among (NameUnused first.owner)) (sym is) (inl refl))
 
-  asks_absent : (first : Record) → Among first (new_firsts old new) → is_unused old first.owner ≡ false → (t : RecordType) → Among t (types_absent old new first) → Among (absent first.owner t) asked
+  asks_absent : (first : Record) → Among first (new_firsts old new) → tests_name scope old first.owner ≡ false → (t : RecordType) → Among t (types_absent old new first) → Among (absent first.owner t) asked
   asks_absent first among e t a =
-      let is : not_there old new first ≡ map (absent first.owner) (types_absent old new first) =
+      let is : not_there scope old new first ≡ map (absent first.owner) (types_absent old new first) =
       ap (λ b. if b then (if comes_first old new first then NameUnused first.owner ∷ [] else []) else map (absent first.owner) (types_absent old new first)) e in
       asks (absent first.owner t) first among (subst (Among (absent first.owner t)) (sym is) ((among_map (absent first.owner) (types_absent old new first) (absent first.owner t)).1 (t, a, refl)))
 
   -- the types that are asked of
-  alias_types : (first : Record) → is_cname (key_of first) ≡ true → types_absent old new first ≡ filter (lacks old first.owner) kept_types
-  alias_types first e = ap (λ b. if b then filter (lacks old first.owner) kept_types
+  alias_types : (first : Record) → is_cname (key_of first) ≡ true → types_absent old new first ≡ filter (λ t. is_below_origin t && lacks old first.owner t) kept_types
+  alias_types first e = ap (λ b. if b then filter (λ t. is_below_origin t && lacks old first.owner t) kept_types
       else (if lacks old first.owner types.Cname && comes_first old new first then type_of first.rdata ∷ types.Cname ∷ [] else type_of first.rdata ∷ [])) e
 
-  each_lacking : (name : List (List ℕ)) (t : RecordType) → lacks old name t ≡ true → Among t (filter (lacks old name) kept_types)
-  each_lacking name t e = filter_among (lacks old name) kept_types t (among_of kept_types t (each_kept t)) e
+  each_lacking : (name : List (List ℕ)) (t : RecordType) → is_below_origin t ≡ true → lacks old name t ≡ true → Among t (filter (λ u. is_below_origin u && lacks old name u) kept_types)
+  each_lacking name t below e =
+      filter_among (λ u. is_below_origin u && lacks old name u) kept_types t (among_of kept_types t (each_kept t)) (both_true (is_below_origin t) (lacks old name t) below e)
 
   own_type : (first : Record) → is_new old first ≡ true → Among (type_of first.rdata) (types_absent old new first)
-  own_type first e = by_alias (is_cname (key_of first)) (lacks old first.owner types.Cname && comes_first old new first)
+  own_type first e = by_alias (is_cname (key_of first)) (lacks old first.owner types.Cname && comes_first old new first) refl
     where
-      by_alias : (b c : Bool)
-          → Among (type_of first.rdata) (if b then filter (lacks old first.owner) kept_types else (if c then type_of first.rdata ∷ types.Cname ∷ [] else type_of first.rdata ∷ []))
-      by_alias true c = each_lacking first.owner (type_of first.rdata) e
-      by_alias false true = inl refl
-      by_alias false false = inl refl
+      by_alias : (b c : Bool) → is_cname (key_of first) ≡ b
+          → Among (type_of first.rdata) (if b then filter (λ t. is_below_origin t && lacks old first.owner t) kept_types else (if c then type_of first.rdata ∷ types.Cname ∷ [] else type_of first.rdata ∷ []))
+      by_alias true c alias = each_lacking first.owner (type_of first.rdata) (ap is_below_origin (is_kind first types.Cname alias)) e
+      by_alias false true alias = inl refl
+      by_alias false false alias = inl refl
 
   alias_type : (first : Record) → is_cname (key_of first) ≡ false → lacks old first.owner types.Cname ≡ true → comes_first old new first ≡ true → Among types.Cname (types_absent old new first)
   alias_type first e none comes =
       let is : types_absent old new first ≡ type_of first.rdata ∷ types.Cname ∷ [] =
-      (λ i. if e i then filter (lacks old first.owner) kept_types
+      (λ i. if e i then filter (λ t. is_below_origin t && lacks old first.owner t) kept_types
       else (if both_true (lacks old first.owner types.Cname) (comes_first old new first) none comes i then type_of first.rdata ∷ types.Cname ∷ [] else type_of first.rdata ∷ [])) in
       subst (Among types.Cname) (sym is) (inr (inl refl))
 
 -- ---- which sets change
 
-module _ (old new : Records) (ops : List Operation) (kept : AreKept old) (also : AreKept new) where
+module _ (scope : GuardScope) (old new : Records) (ops : List Operation) (kept : AreKept old) (also : AreKept new) where
   -- whether the set of an owner and a type changes
   abbrev changes_at : List (List ℕ) → RecordType → Bool
   changes_at name t =
@@ -426,75 +436,75 @@ module _ (old new : Records) (ops : List Operation) (kept : AreKept old) (also :
       let changed : changes_set old new ops f.first ≡ true = (λ i. changes_at ((f.owner ∙ stands.1) i) ((f.type ∙ stands.2) i)) ∙ changes in
       (f, filter_among (λ s. is_first old s && changes_set old new ops s) (listing old) f.first (in_listed old kept f.first f.here) (both_true (is_first old f.first) (changes_set old new ops f.first) f.is changed))
 
-  asked_there : (r x : Record) → Stands old r.owner (type_of r.rdata) x → changes_set old new ops r ≡ true → Among (there x) (guards_of old new ops)
+  asked_there : (r x : Record) → Stands old r.owner (type_of r.rdata) x → changes_set old new ops r ≡ true → Among (there x) (guards_of scope old new ops)
   asked_there r x stands changes =
-      let f = changed_first r x stands changes in tells old new ops kept f.0.first x f.1 (stands.0, sym f.0.owner, sym f.0.type)
+      let f = changed_first r x stands changes in tells scope old new ops kept f.0.first x f.1 (stands.0, sym f.0.owner, sym f.0.type)
 
   -- for a set that changes there is a prerequisite
-  pub some_asked : (r : Record) → IsIn r old ⊎ IsIn r new → changes_set old new ops r ≡ true → (p : Prerequisite) × Among p (guards_of old new ops)
+  pub some_asked : (r : Record) → IsIn r old ⊎ IsIn r new → changes_set old new ops r ≡ true → (p : Prerequisite) × Among p (guards_of scope old new ops)
   some_asked r one changes = elim one [
     | inl here ↦ (there r, asked_there r r (here, refl, refl) changes)
-    | inr here ↦ by_cases (is_new old r) ((p : Prerequisite) × Among p (guards_of old new ops)) (some_new here)
+    | inr here ↦ by_cases (is_new old r) ((p : Prerequisite) × Among p (guards_of scope old new ops)) (some_new here)
         (λ old_one. let x = some_stands old kept r.owner (type_of r.rdata) old_one in (there x.0, asked_there r x.0 x.1 changes))
   ]
     where
-      some_new : IsIn r new → is_new old r ≡ true → (p : Prerequisite) × Among p (guards_of old new ops)
+      some_new : IsIn r new → is_new old r ≡ true → (p : Prerequisite) × Among p (guards_of scope old new ops)
       some_new here e =
-          let g = of_name old new ops kept also r here e in
-          by_cases (is_unused old g.0.first.owner) ((p : Prerequisite) × Among p (guards_of old new ops))
-          (λ bare. (NameUnused g.0.first.owner, asks_unused old new ops kept also g.0.first g.0.among bare g.1))
+          let g = of_name scope old new ops kept also r here e in
+          by_cases (tests_name scope old g.0.first.owner) ((p : Prerequisite) × Among p (guards_of scope old new ops))
+          (λ bare. (NameUnused g.0.first.owner, asks_unused scope old new ops kept also g.0.first g.0.among bare g.1))
           (λ used. (
             absent g.0.first.owner (type_of g.0.first.rdata),
-            asks_absent old new ops kept also g.0.first g.0.among used (type_of g.0.first.rdata) (own_type old new ops kept also g.0.first g.0.fresh),
+            asks_absent scope old new ops kept also g.0.first g.0.among used (type_of g.0.first.rdata) (own_type scope old new ops kept also g.0.first g.0.fresh),
           ))
 
 -- ---- what they say of a zone in which they are met
 
-module _ (old new now : Records) (ops : List Operation) (kept : AreKept old) (also : AreKept new) (met : AreMet now (guards_of old new ops)) where
-  is_met : (p : Prerequisite) → Among p (guards_of old new ops) → IsMet now (guards_of old new ops) p
-  is_met p a = among_all (IsMet now (guards_of old new ops)) (guards_of old new ops) p met a
+module _ (scope : GuardScope) (old new now : Records) (ops : List Operation) (kept : AreKept old) (also : AreKept new) (met : AreMet now (guards_of scope old new ops)) where
+  is_met : (p : Prerequisite) → Among p (guards_of scope old new ops) → IsMet now (guards_of scope old new ops) p
+  is_met p a = among_all (IsMet now (guards_of scope old new ops)) (guards_of scope old new ops) p met a
 
   -- a set that is there has its data
   told_there : (r x : Record) → Stands old r.owner (type_of r.rdata) x → changes_set old new ops r ≡ true → HaveSameSet now old r
   told_there r x stands changes d =
-      let f = changed_first old new ops kept also r x stands changes in
-      let tested : IsMet now (guards_of old new ops) (there x) = is_met (there x) (asked_there old new ops kept also r x stands changes) in (
+      let f = changed_first scope old new ops kept also r x stands changes in
+      let tested : IsMet now (guards_of scope old new ops) (there x) = is_met (there x) (asked_there scope old new ops kept also r x stands changes) in (
         λ has.
             let like : type_of d ≡ type_of r.rdata = sym (ap type_of has.2) ∙ has.1.2 in
             let given = (tested d (like ∙ sym stands.2)).0 (has.0, (has.1.0, has.1.1 ∙ sym stands.1, ap type_of has.2), has.2) in
-            let t = told_equals old new ops kept x.owner d (among_of (guards_of old new ops) (RrsetEquals x.owner d) given) in
+            let t = told_equals scope old new ops kept x.owner d (among_of (guards_of scope old new ops) (RrsetEquals x.owner d) given) in
             let is : RrsetEquals t.one.owner t.one.rdata ≡ RrsetEquals x.owner d = t.is in
             let named : t.one.owner ≡ x.owner = cc in
             let same : t.one.rdata ≡ d = cc in
             (t.one, (t.stands.0, named ∙ stands.1, ap type_of same ∙ like), same),
         λ has.
             let like : type_of d ≡ type_of r.rdata = sym (ap type_of has.2) ∙ has.1.2 in
-            let here : Among (there has.0) (guards_of old new ops) = tells old new ops kept f.0.first has.0 f.1 (has.1.0, has.1.1 ∙ sym (f.0.owner ∙ stands.1), has.1.2 ∙ sym (f.0.type ∙ stands.2)) in
+            let here : Among (there has.0) (guards_of scope old new ops) = tells scope old new ops kept f.0.first has.0 f.1 (has.1.0, has.1.1 ∙ sym (f.0.owner ∙ stands.1), has.1.2 ∙ sym (f.0.type ∙ stands.2)) in
             let equal : there has.0 ≡ RrsetEquals x.owner d = (λ i. RrsetEquals ((has.1.1 ∙ sym stands.1) i) (has.2 i)) in
-            let given = of_among (guards_of old new ops) (RrsetEquals x.owner d) (subst (λ (p : Prerequisite). Among p (guards_of old new ops)) equal here) in
+            let given = of_among (guards_of scope old new ops) (RrsetEquals x.owner d) (subst (λ (p : Prerequisite). Among p (guards_of scope old new ops)) equal here) in
             let one = (tested d (like ∙ sym stands.2)).1 given in
             (one.0, (one.1.0, one.1.1 ∙ stands.1, one.1.2 ∙ like), one.2),
       )
 
   -- a name that the old zone has not is not in use
-  nobody : (r : Record) → IsIn r new → is_new old r ≡ true → is_unused old r.owner ≡ true → (s : Record) → IsIn s now → s.owner ≢ r.owner
+  nobody : (r : Record) → IsIn r new → is_new old r ≡ true → tests_name scope old r.owner ≡ true → (s : Record) → IsIn s now → s.owner ≢ r.owner
   nobody r here e bare s there owner =
-      let g = of_name old new ops kept also r here e in
-      let unused : is_unused old g.0.first.owner ≡ true = ap (is_unused old) g.0.owner ∙ bare in
-      is_met (NameUnused g.0.first.owner) (asks_unused old new ops kept also g.0.first g.0.among unused g.1) s there (owner ∙ sym g.0.owner)
+      let g = of_name scope old new ops kept also r here e in
+      let unused : tests_name scope old g.0.first.owner ≡ true = ap (tests_name scope old) g.0.owner ∙ bare in
+      is_met (NameUnused g.0.first.owner) (asks_unused scope old new ops kept also g.0.first g.0.among unused g.1) s there (owner ∙ sym g.0.owner)
 
   -- at another name nothing is of a type that is asked of
-  none_of : (first : Record) → Among first (new_firsts old new) → is_unused old first.owner ≡ false → (t : RecordType) → Among t (types_absent old new first) → (s : Record) → ¬ Stands now first.owner t s
-  none_of first among used t a = is_met (absent first.owner t) (asks_absent old new ops kept also first among used t a)
+  none_of : (first : Record) → Among first (new_firsts old new) → tests_name scope old first.owner ≡ false → (t : RecordType) → Among t (types_absent old new first) → (s : Record) → ¬ Stands now first.owner t s
+  none_of first among used t a = is_met (absent first.owner t) (asks_absent scope old new ops kept also first among used t a)
 
   -- a set that is not there does not exist
   none_now : (r : Record) → IsIn r new → is_new old r ≡ true → IsOfNoSet now r
   none_now r here e s stands =
-      by_cases (is_unused old r.owner) ⊥
+      by_cases (tests_name scope old r.owner) ⊥
       (λ bare. nobody r here e bare s stands.0 stands.1)
       (λ used.
-      let f = of_set old new ops kept also r here e in
-      none_of f.0.first f.0.among (ap (is_unused old) f.0.owner ∙ used) (type_of f.0.first.rdata) (own_type old new ops kept also f.0.first f.0.fresh) s
+      let f = of_set scope old new ops kept also r here e in
+      none_of f.0.first f.0.among (ap (tests_name scope old) f.0.owner ∙ used) (type_of f.0.first.rdata) (own_type scope old new ops kept also f.0.first f.0.fresh) s
       (stands.0, stands.1 ∙ sym f.0.owner, stands.2 ∙ sym f.1))
 
   told_new : (r : Record) → IsIn r new → changes_set old new ops r ≡ true → HaveSameSet now old r
@@ -511,37 +521,39 @@ module _ (old new now : Records) (ops : List Operation) (kept : AreKept old) (al
 
   -- ---- room for what comes
 
-  room_alias : (r : Record) → IsIn r new → is_new old r ≡ true → type_of r.rdata ≡ types.Cname → (s : Record) → IsIn s now → s.owner ≡ r.owner → (t : Record) × Stands old r.owner (type_of s.rdata) t
-  room_alias r here e alias s there owner =
+  room_alias : (r : Record) → IsIn r new → is_new old r ≡ true → type_of r.rdata ≡ types.Cname → (s : Record) → IsIn s now → s.owner ≡ r.owner → type_of s.rdata ≢ types.Soa
+      → (t : Record) × Stands old r.owner (type_of s.rdata) t
+  room_alias r here e alias s there owner other =
       by_cases (lacks old r.owner (type_of s.rdata)) ((t : Record) × Stands old r.owner (type_of s.rdata) t)
-      (λ none. absurd (by_cases (is_unused old r.owner) ⊥
+      (λ none. absurd (by_cases (tests_name scope old r.owner) ⊥
       (λ bare. nobody r here e bare s there owner)
       (λ used.
-      let f = of_set old new ops kept also r here e in
+      let f = of_set scope old new ops kept also r here e in
       let first : Record = f.0.first in
-      let types_are = alias_types old new ops kept also first (kind (key_of first) types.Cname (ap rank_of (f.1 ∙ alias))) in
-      let a = each_lacking old new ops kept also first.owner (type_of s.rdata) (ap (λ n. lacks old n (type_of s.rdata)) f.0.owner ∙ none) in
-      none_of first f.0.among (ap (is_unused old) f.0.owner ∙ used) (type_of s.rdata) (subst (Among (type_of s.rdata)) (sym types_are) a) s (there, owner ∙ sym f.0.owner, refl))))
+      let types_are = alias_types scope old new ops kept also first (kind (key_of first) types.Cname (ap rank_of (f.1 ∙ alias))) in
+      let a = each_lacking scope old new ops kept also first.owner (type_of s.rdata) (below_origin (type_of s.rdata) other) (ap (λ n. lacks old n (type_of s.rdata)) f.0.owner ∙ none) in
+      none_of first f.0.among (ap (tests_name scope old) f.0.owner ∙ used) (type_of s.rdata) (subst (Among (type_of s.rdata)) (sym types_are) a) s (there, owner ∙ sym f.0.owner, refl))))
       (λ some. some_stands old kept r.owner (type_of s.rdata) some)
 
-  -- where an alias is alone at its name
-  module _ (alone : (r s : Record) → IsIn r new → IsIn s new → type_of r.rdata ≡ types.Cname → s.owner ≡ r.owner → s ≡ r) where
+  -- where an alias is alone at its name, and not at the origin
+  module _ (alone : (r s : Record) → IsIn r new → IsIn s new → type_of r.rdata ≡ types.Cname → s.owner ≡ r.owner → s ≡ r)
+      (below : (r s : Record) → IsIn r new → IsIn s now → type_of r.rdata ≡ types.Cname → s.owner ≡ r.owner → type_of s.rdata ≢ types.Soa) where
     room_other : (r : Record) → IsIn r new → is_new old r ≡ true → type_of r.rdata ≢ types.Cname → ((t : Record) → ¬ Stands old r.owner types.Cname t) → (s : Record) → ¬ Stands now r.owner types.Cname s
     room_other r here e other none s stands =
-        by_cases (is_unused old r.owner) ⊥
+        by_cases (tests_name scope old r.owner) ⊥
         (λ bare. nobody r here e bare s stands.0 stands.1)
         (λ used.
-        let g = of_name old new ops kept also r here e in
+        let g = of_name scope old new ops kept also r here e in
         let first : Record = g.0.first in
         let no_alias : is_cname (key_of first) ≡ false =
         false_from_ne_true (is_cname (key_of first)) (λ t.
         let alias = is_kind first types.Cname t in
         other (ap (λ (x : Record). type_of x.rdata) (alone first r g.0.here here alias (sym g.0.owner)) ∙ alias)) in
         let lacking : lacks old first.owner types.Cname ≡ true = ap (λ n. lacks old n types.Cname) g.0.owner ∙ stands_none old kept r.owner types.Cname none in
-        none_of first g.0.among (ap (is_unused old) g.0.owner ∙ used) types.Cname (alias_type old new ops kept also first no_alias lacking g.1) s
+        none_of first g.0.among (ap (tests_name scope old) g.0.owner ∙ used) types.Cname (alias_type scope old new ops kept also first no_alias lacking g.1) s
         (stands.0, stands.1 ∙ sym g.0.owner, stands.2))
 
     pub guards_make_room : (r : Record) → IsIn r new → IsOfNoSet old r → HasRoom old now r
     guards_make_room r here none =
         let fresh = stands_none old kept r.owner (type_of r.rdata) none in
-        record { alias = room_alias r here fresh; other = room_other r here fresh }
+        record { alias = λ alias s there owner. room_alias r here fresh alias s there owner (below r s here there alias owner); other = room_other r here fresh }

@@ -9,6 +9,7 @@ pub mod OperationLaws
 pub mod BesideLaws
 pub mod CheckLemmas
 pub mod DiffLaws
+pub mod SetLaws
 pub mod DiffLemmas
 pub mod SlotLemmas
 pub mod FillingLemmas

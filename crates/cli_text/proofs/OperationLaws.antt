@@ -26,6 +26,7 @@ use Rattle.zone_core.proofs.ZoneLemmas.{Keys, at_is, both_true, is_kind, kind, n
 use Rattle.zone_core.proofs.ChangedLemmas.{kept_in_part}
 use Rattle.zone_tools.proofs.DiffLeadLemmas.{edited_other, server_off}
 use Rattle.zone_tools.proofs.DiffSoaLemmas.{data_type, is_equal_self}
+use Rattle.cli_core.specs.declared.job.GuardScope.{GuardScope}
 use Rattle.cli_text.specs.Guards.{are_equal, changes_set, guards_of, is_first, is_new, set_like}
 use Rattle.cli_text.specs.GuardPromises.{HaveSameSet}
 use Rattle.cli_text.proofs.GuardLaws.{among_filter, among_map, guards_tell, is_comer, like_stands, listed_in, none_stands, parts, some_asked, stands_like}
@@ -60,7 +61,7 @@ are_equal_self rs = both_true (length rs == length rs) (list_all (λ p. is_equal
     each (x ∷ xs) = both_true (is_equal x x) (list_all (λ p. is_equal p.0 p.1) (zip xs xs)) (is_equal_self x) (each xs)
 
 module _ (origin : List (List ℕ)) (old new : Records) (z : Keys origin old) (n : Keys origin new) where
-  abbrev ops : List Operation
+  abbrev pub ops : List Operation
   ops = operations origin old new
 
   -- ---- records in which the two differ
@@ -78,7 +79,7 @@ module _ (origin : List (List ℕ)) (old new : Records) (z : Keys origin old) (n
       let found : get new (key_of r) ≡ Some y = ap (get new) (key_is (key_of r) (key_of y) both.0) ∙ there in
       (λ i. same_ttl (here i) (found i)) ∙ both.1
 
-  unequal : (r : Record) → is_soa (key_of r) ≡ false → (are_equal (set_like old r) (set_like new r) ≡ true → ⊥) → changes_set old new ops r ≡ true
+  pub unequal : (r : Record) → is_soa (key_of r) ≡ false → (are_equal (set_like old r) (set_like new r) ≡ true → ⊥) → changes_set old new ops r ≡ true
   unequal r off differ =
       ap (λ b. if b then list_any adds_soa ops else not (are_equal (set_like old r) (set_like new r))) off
       ∙ ap not (false_from_ne_true (are_equal (set_like old r) (set_like new r)) differ)
@@ -222,17 +223,17 @@ module _ (origin : List (List ℕ)) (old new : Records) (z : Keys origin old) (n
 
   -- ---- no operations, and no prerequisites
 
-  abbrev asked : List Prerequisite
-  asked = guards_of old new ops
+  abbrev asked : GuardScope → List Prerequisite
+  asked scope = guards_of scope old new ops
 
-  pub none_needed : asked ≡ [] → ops ≡ []
-  none_needed bare = by_ops ops refl
+  pub none_needed : (scope : GuardScope) → asked scope ≡ [] → ops ≡ []
+  none_needed scope bare = by_ops ops refl
     where
       by_ops : (xs : List Operation) → ops ≡ xs → xs ≡ []
       by_ops [] e = refl
       by_ops (op ∷ xs) e =
           let t = touches op (subst (Among op) (sym e) (inl refl)) in
-          let some = some_asked old new ops z.rows.kept n.rows.kept t.one t.here t.changes in
+          let some = some_asked scope old new ops z.rows.kept n.rows.kept t.one t.here t.changes in
           absurd (subst (Among some.0) bare some.1)
 
   module _ (none : ops ≡ []) where
@@ -269,22 +270,22 @@ module _ (origin : List (List ℕ)) (old new : Records) (z : Keys origin old) (n
         none_stands old z.rows.kept r.owner (type_of r.rdata) fresh s (ap (get old) own.0 ∙ z.soa_there.1, owner, kind_of))
         (λ off. none_stands old z.rows.kept r.owner (type_of r.rdata) fresh r (same_rest (key_of r) off ∙ here, refl, refl))
 
-    pub none_asked : asked ≡ []
-    none_asked = by_asked asked refl
+    pub none_asked : (scope : GuardScope) → asked scope ≡ []
+    none_asked scope = by_asked (asked scope) refl
       where
-        idle : (p : Prerequisite) → Among p asked → ⊥
-        idle p a = elim (parts old new ops z.rows.kept p a) [
+        idle : (p : Prerequisite) → Among p (asked scope) → ⊥
+        idle p a = elim (parts scope old new ops z.rows.kept p a) [
           | inl t ↦ unchanged t.first (and_parts (is_first old t.first) (changes_set old new ops t.first) (among_filter (λ r. is_first old r && changes_set old new ops r) (listing old) t.first t.among).1).1
-          | inr f ↦ (let both = is_comer old new ops z.rows.kept f.first f.among in none_comes f.first (listed_in new n.rows.kept f.first both.0) both.1)
+          | inr f ↦ (let both = is_comer scope old new ops z.rows.kept f.first f.among in none_comes f.first (listed_in new n.rows.kept f.first both.0) both.1)
         ]
 
-        by_asked : (ps : List Prerequisite) → asked ≡ ps → ps ≡ []
+        by_asked : (ps : List Prerequisite) → asked scope ≡ ps → ps ≡ []
         by_asked [] e = refl
         by_asked (p ∷ ps) e = absurd (idle p (subst (Among p) (sym e) (inl refl)))
 
   -- ---- the sets of operations
 
-  module _ (now : Records) (met : AreMet now asked) where
+  module _ (scope : GuardScope) (now : Records) (met : AreMet now (asked scope)) where
     abbrev SameAt : List (List ℕ) → RecordType → Type 0
     SameAt name t = (d : Data) → ((x : Record) × Stands now name t x × (x.rdata ≡ d)) ↔ ((x : Record) × Stands old name t x × (x.rdata ≡ d))
 
@@ -292,7 +293,7 @@ module _ (origin : List (List ℕ)) (old new : Records) (z : Keys origin old) (n
     by_operation r op a e =
         let t = touches op a in
         let like = t.on r e in
-        subst (λ u. SameAt r.owner u) like.1 (subst (λ name. SameAt name (type_of t.one.rdata)) like.0 (guards_tell old new now ops z.rows.kept n.rows.kept met t.one t.here t.changes))
+        subst (λ u. SameAt r.owner u) like.1 (subst (λ name. SameAt name (type_of t.one.rdata)) like.0 (guards_tell scope old new now ops z.rows.kept n.rows.kept met t.one t.here t.changes))
 
     pub each_tells : (r : Record) → Contains ops (addition r) ⊎ Contains ops (deletion r) → HaveSameSet now old r
     each_tells r one = elim one [

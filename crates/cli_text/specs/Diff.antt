@@ -1,10 +1,12 @@
 -- What `diff` prints: the items that lead from one zone to another of the same origin, and in a form prerequisites before them.
 use Rattle.std.specs.Prelude.{◌≡◌, ◌≢◌, ◌↔◌, ◌⊎◌, ℕ, ◌≤◌, List, [], length, true, if◌then◌else◌, Option, Result, Ok, Err}
+use Rattle.std.specs.List.{Contains}
 use Rattle.dns_data.specs.declared.record.Record.{Record}
 use Rattle.dns_data.specs.declared.record_type.RecordType.TheVariants as types
 use Rattle.dns_data.specs.Rdata.{type_of}
 use Rattle.zone_core.specs.declared.update.Operation.{Operation}
 use Rattle.zone_core.specs.declared.update.Prerequisite.{Prerequisite}
+use Rattle.zone_core.specs.declared.update.Prerequisite.TheVariants.{RrsetAbsent}
 use Rattle.zone_core.specs.Sets.{IsIn}
 use Rattle.zone_core.specs.Zones.{ZoneOf, IsZone}
 use Rattle.zone_core.specs.Updates.{UpdateOf}
@@ -15,6 +17,8 @@ use Rattle.update_lines.specs.Reading.{items_of}
 use Rattle.update_lines.specs.Texts.{update_text}
 use Rattle.cli_core.specs.declared.job.DiffForm.{DiffForm}
 use Rattle.cli_core.specs.declared.job.DiffForm.TheVariants.{Bare, Guarded}
+use Rattle.cli_core.specs.declared.job.GuardScope.{GuardScope}
+use Rattle.cli_core.specs.declared.job.GuardScope.TheVariants.{Sets}
 use Rattle.cli_core.specs.declared.refusal.Refusal.{Refusal}
 use Rattle.cli_core.specs.declared.line_fault.JobFault.{JobFault}
 use Rattle.cli_text.specs.declared.diff_fault.DiffFault.{DiffFault}
@@ -25,12 +29,12 @@ use Rattle.cli_text.specs.Canon.{zone_of_file, zone_read}
 use Rattle.cli_text.specs.Apply.{updated, zone_lines}
 use Rattle.cli_text.specs.Guards.{changes_set, guards_of}
 use Rattle.cli_core.specs.Inputs.{InputOf}
-use Rattle.cli_text.specs.GuardPromises.{HaveSameSet, HasRoom, IsOfNoSet, IsOfOperation}
+use Rattle.cli_text.specs.GuardPromises.{HaveSameSet, HasRoom, IsOfNoSet, IsOfOperation, IsTestFor}
 
 -- the prerequisites before operations between two zones, in a form
 abbrev pub prerequisites_in : DiffForm → ZoneOf → ZoneOf → List Operation → List Prerequisite
 prerequisites_in Bare old new ops = []
-prerequisites_in Guarded old new ops = guards_of old.records new.records ops
+prerequisites_in (Guarded scope) old new ops = guards_of scope old.records new.records ops
 
 -- the update that leads from one zone to another, in a form
 abbrev pub update_in : DiffForm → ZoneOf → ZoneOf → UpdateOf
@@ -92,46 +96,80 @@ target_of old new = record old { records = target old.origin old.records new.rec
 abbrev pub DiffsLead : Type 0
 DiffsLead = (old new : ZoneOf) → IsZone old → IsZone new → new.origin ≡ old.origin → zone_after old (update_between old new) ≡ target_of old new
 
+-- its operations
+abbrev pub operations_of : ZoneOf → ZoneOf → List Operation
+operations_of old new = (update_between old new).operations
+
 -- the prerequisites of a diff are met in the old zone
 abbrev pub DiffsAreMet : Type 0
 DiffsAreMet = (form : DiffForm) (old new : ZoneOf) → IsZone old → IsZone new → AreMet old.records (update_in form old new).prerequisites
 
--- the prerequisites before the operations from one zone to another are met in a third of their origin
-pub record Meets (old new now : ZoneOf) : Type 0 where
+-- the prerequisites of a scope before the operations from one zone to another are met in a third of their origin
+pub record Meets (scope : GuardScope) (old new now : ZoneOf) : Type 0 where
   pub is_old : IsZone old
   pub is_new : IsZone new
   pub is_now : IsZone now
   pub new_origin : new.origin ≡ old.origin
   pub now_origin : now.origin ≡ old.origin
-  pub met : AreMet now.records (update_in Guarded old new).prerequisites
+  pub met : AreMet now.records (update_in (Guarded scope) old new).prerequisites
 
 -- there, each record set that the operations change has the data that it has in the old zone
 abbrev pub DiffsTell : Type 0
 DiffsTell =
-    (old new now : ZoneOf) → Meets old new now → (r : Record) → IsIn r old.records ⊎ IsIn r new.records
-    → changes_set old.records new.records (update_in Guarded old new).operations r ≡ true → HaveSameSet now.records old.records r
+    (scope : GuardScope) (old new now : ZoneOf) → Meets scope old new now → (r : Record) → IsIn r old.records ⊎ IsIn r new.records
+    → changes_set old.records new.records (operations_of old new) r ≡ true → HaveSameSet now.records old.records r
 
 -- and so has the set of each record that an operation adds or deletes
 abbrev pub OperationsTell : Type 0
-OperationsTell = (old new now : ZoneOf) → Meets old new now → (r : Record) → IsOfOperation (update_in Guarded old new).operations r → HaveSameSet now.records old.records r
+OperationsTell = (scope : GuardScope) (old new now : ZoneOf) → Meets scope old new now → (r : Record) → IsOfOperation (operations_of old new) r → HaveSameSet now.records old.records r
 
 -- no record is there for which a record of a new set is left out
 abbrev pub DiffsHaveRoom : Type 0
-DiffsHaveRoom = (old new now : ZoneOf) → Meets old new now → (r : Record) → IsIn r new.records → IsOfNoSet old.records r → HasRoom old.records now.records r
+DiffsHaveRoom = (scope : GuardScope) (old new now : ZoneOf) → Meets scope old new now → (r : Record) → IsIn r new.records → IsOfNoSet old.records r → HasRoom old.records now.records r
 
 -- and so the operations make of each record set that they change what it is in the new zone, and leave each other as it was there; but for
 -- the SOA
 abbrev pub DiffsAreMadeBeside : Type 0
 DiffsAreMadeBeside =
-    (old new now : ZoneOf) → Meets old new now → (r : Record) → type_of r.rdata ≢ types.Soa
-    → HaveSameSet (zone_after now (update_in Guarded old new)).records
-    (if changes_set old.records new.records (update_in Guarded old new).operations r then new.records else now.records) r
+    (scope : GuardScope) (old new now : ZoneOf) → Meets scope old new now → (r : Record) → type_of r.rdata ≢ types.Soa
+    → HaveSameSet (zone_after now (update_in (Guarded scope) old new)).records
+    (if changes_set old.records new.records (operations_of old new) r then new.records else now.records) r
 
 -- there are prerequisites exactly where there are operations
 abbrev pub OperationsAreGuarded : Type 0
 OperationsAreGuarded =
-    (old new : ZoneOf) → IsZone old → IsZone new → new.origin ≡ old.origin
-    → ((update_in Guarded old new).prerequisites ≡ []) ↔ ((update_in Guarded old new).operations ≡ [])
+    (scope : GuardScope) (old new : ZoneOf) → IsZone old → IsZone new → new.origin ≡ old.origin
+    → ((update_in (Guarded scope) old new).prerequisites ≡ []) ↔ (operations_of old new ≡ [])
+
+-- ---- tests of sets only
+
+-- a zone of an origin in which the record sets that change have the data of the old zone, and no record keeps out what comes
+pub record IsReadyFor (old new now : ZoneOf) : Type 0 where
+  pub is_old : IsZone old
+  pub is_new : IsZone new
+  pub is_now : IsZone now
+  pub new_origin : new.origin ≡ old.origin
+  pub now_origin : now.origin ≡ old.origin
+  pub same : (r : Record) → IsIn r old.records ⊎ IsIn r new.records → changes_set old.records new.records (operations_of old new) r ≡ true → HaveSameSet now.records old.records r
+  pub room : (r : Record) → IsIn r new.records → IsOfNoSet old.records r → HasRoom old.records now.records r
+
+-- in such a zone the prerequisites on sets are met, whatever else it has
+abbrev pub SetsAreEnough : Type 0
+SetsAreEnough = (old new now : ZoneOf) → IsReadyFor old new now → AreMet now.records (update_in (Guarded Sets) old new).prerequisites
+
+-- each of them is on a set that changes: it tests that set, or what keeps it out
+abbrev pub SetsAreTested : Type 0
+SetsAreTested =
+    (old new : ZoneOf) → IsZone old → IsZone new → new.origin ≡ old.origin → (p : Prerequisite) → Contains (update_in (Guarded Sets) old new).prerequisites p
+    → (r : Record) × (IsIn r old.records ⊎ IsIn r new.records) × (changes_set old.records new.records (operations_of old new) r ≡ true) × IsTestFor r p
+
+-- and no prerequisite of any scope tests that there is no SOA
+abbrev pub NoSoaIsTestedFor : Type 0
+NoSoaIsTestedFor =
+    (scope : GuardScope) (old new : ZoneOf) → IsZone old → IsZone new → new.origin ≡ old.origin
+    → (name : List (List ℕ)) → ¬ Contains (update_in (Guarded scope) old new).prerequisites (RrsetAbsent name types.Soa)
+
+-- ---- what is read
 
 -- if there are no more items than an update may have, they are read as the update, and `apply` prints of the old zone the zone to which
 -- the operations lead

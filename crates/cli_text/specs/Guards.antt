@@ -1,6 +1,6 @@
 -- The prerequisites before the operations between two zones (RFC 2136 section 2.4): the record sets that change are as in the old zone, and
 -- no record is there for which section 3.4.2.2 leaves out what comes.
-use Rattle.std.specs.Prelude.{ℕ, List, [], ◌∷◌, ◌++◌, map, length, Bool, false, not, ◌&&◌, ◌==◌, if◌then◌else◌, Option, Some, None}
+use Rattle.std.specs.Prelude.{ℕ, List, [], ◌∷◌, ◌++◌, map, length, Bool, true, false, not, ◌&&◌, ◌==◌, if◌then◌else◌, Option, Some, None}
 use Rattle.std.specs.List.{filter, find, flat_map, list_all, list_any, zip}
 use Rattle.dns_data.specs.declared.record.Record.{Record}
 use Rattle.dns_data.specs.declared.record_type.RecordType.{RecordType}
@@ -14,6 +14,8 @@ use Rattle.zone_core.specs.Sets.{Records, key_of, same_key, listing, part, at_na
 use Rattle.zone_core.specs.Zones.{is_soa, is_cname}
 use Rattle.zone_core.specs.Updates.{adds_soa}
 use Rattle.zone_tools.specs.Differences.{is_equal}
+use Rattle.cli_core.specs.declared.job.GuardScope.{GuardScope}
+use Rattle.cli_core.specs.declared.job.GuardScope.TheVariants.{Names, Sets}
 
 -- ---- record sets (RFC 2181 section 5)
 
@@ -81,22 +83,36 @@ there r = RrsetEquals r.owner r.rdata
 abbrev pub absent : List (List ℕ) → RecordType → Prerequisite
 absent name t = RrsetAbsent name t
 
--- The types of which no record may be at the name of a set that comes, if the old zone uses the name (RFC 2136 section 3.4.2.2). A CNAME is
--- left out beside any other set: all types that the old zone does not have there. Another set is left out beside a CNAME: its own type
+-- a type of which a record can be below the origin: an SOA is at the origin only (RFC 1035 section 5.2)
+abbrev pub is_below_origin : RecordType → Bool
+is_below_origin types.Soa = false
+is_below_origin t = true
+
+-- The types of which no record may be at the name of a set that comes (RFC 2136 section 3.4.2.2). A CNAME is left out beside any other set:
+-- all types that the old zone does not have there, but SOA, since a CNAME is below the origin. Another set is left out beside a CNAME: its own type
 -- and, once for a name, CNAME, unless the old zone has a CNAME there, which goes.
 abbrev pub types_absent : Records → Records → Record → List RecordType
 types_absent old new r =
-    if is_cname (key_of r) then filter (lacks old r.owner) kept_types
+    if is_cname (key_of r) then filter (λ t. is_below_origin t && lacks old r.owner t) kept_types
     else (if lacks old r.owner types.Cname && comes_first old new r then type_of r.rdata ∷ types.Cname ∷ [] else type_of r.rdata ∷ [])
 
--- The prerequisites for a set that comes: that its name is not in use, once for the name, if the old zone does not use it; else that no
--- record of these types is there.
-abbrev pub not_there : Records → Records → Record → List Prerequisite
-not_there old new r =
-    if is_unused old r.owner then (if comes_first old new r then NameUnused r.owner ∷ [] else [])
+-- whether names that the old zone does not use are tested whole
+abbrev pub tests_names : GuardScope → Bool
+tests_names Names = true
+tests_names Sets = false
+
+-- whether it is tested that nobody uses a name
+abbrev pub tests_name : GuardScope → Records → List (List ℕ) → Bool
+tests_name scope old name = tests_names scope && is_unused old name
+
+-- The prerequisites for a set that comes: that its name is not in use, once for the name, if names are tested and the old zone does not use
+-- it; else that no record of these types is there.
+abbrev pub not_there : GuardScope → Records → Records → Record → List Prerequisite
+not_there scope old new r =
+    if tests_name scope old r.owner then (if comes_first old new r then NameUnused r.owner ∷ [] else [])
     else map (absent r.owner) (types_absent old new r)
 
 -- that each record set of the old zone that changes has its data, and then those for the sets that come; both in record order
-abbrev pub guards_of : Records → Records → List Operation → List Prerequisite
-guards_of old new ops =
-    flat_map (λ r. map there (set_like old r)) (changed_firsts old new ops) ++ flat_map (not_there old new) (new_firsts old new)
+abbrev pub guards_of : GuardScope → Records → Records → List Operation → List Prerequisite
+guards_of scope old new ops =
+    flat_map (λ r. map there (set_like old r)) (changed_firsts old new ops) ++ flat_map (not_there scope old new) (new_firsts old new)

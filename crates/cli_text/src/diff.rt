@@ -27,7 +27,7 @@ fn prerequisites_in(
 {
     match form {
         DiffForm::Bare => Ok(Vec::new(alloc)),
-        DiffForm::Guarded => guards_of(alloc, old, new, operations),
+        DiffForm::Guarded(scope) => guards_of(alloc, scope, old, new, operations),
     }
 }
 

@@ -1,12 +1,13 @@
 //! Prerequisites under which the record sets that a diff changes are as in the old zone, and no record keeps out what comes.
 
-ghost use Rattle.std.specs.Prelude.{◌≡◌, ◌++◌, IfOk, OnOk, map};
+ghost use Rattle.std.specs.Prelude.{◌≡◌, ◌++◌, ◌&&◌, IfOk, OnOk, map};
 ghost use Rattle.std.specs.List.{filter, find, flat_map, list_all, list_any, zip};
 ghost use Rattle.std.specs.Option.{option_copied};
 ghost use Rattle.zone_core.specs.Updates.{adds_soa};
 ghost use Rattle.zone_tools.specs.Differences.{is_equal};
-ghost use Rattle.cli_text.specs.Guards.{set_like, begins_with, are_equal, changes_set, changed_firsts, is_unused, lacks, is_new, new_firsts, comes_first, there, absent, types_absent, not_there, guards_of};
+ghost use Rattle.cli_text.specs.Guards.{set_like, begins_with, are_equal, changes_set, changed_firsts, is_unused, lacks, is_below_origin, is_new, new_firsts, comes_first, tests_names, tests_name, there, absent, types_absent, not_there, guards_of};
 
+use cli_core::GuardScope;
 use dns_data::{Record, RecordType};
 use dns_names::Name;
 use std::alloc::{AllocError, Global};
@@ -146,18 +147,25 @@ fn comes_first(old: &Zone, new: &Zone, rr: &Record) -> bool
     }
 }
 
-/// The types of which no record is at a name. The only error is out of memory.
+/// Whether a record of a type can be below the origin (RFC 1035 section 5.2).
+fn is_below_origin(record_type: RecordType) -> bool
+    ensures { result ≡ is_below_origin record_type }
+{
+    !matches!(record_type, RecordType::Soa)
+}
+
+/// The types of which no record is at a name below the origin. The only error is out of memory.
 fn lacking(alloc: Global, zone: &Zone, name: &Name) -> Result<Vec<RecordType>, AllocError>
-    ensures { IfOk result (λ types. types.items ≡ filter (lacks zone.now.records name.now) RecordType.ALL) }
+    ensures { IfOk result (λ types. types.items ≡ filter (λ t. is_below_origin t && lacks zone.now.records name.now t) RecordType.ALL) }
 {
     let types = RecordType::ALL.iter().copied();
     types
-        .filter(|record_type| lacks(zone, name, *record_type))
+        .filter(|record_type| { is_below_origin(*record_type) && lacks(zone, name, *record_type) })
         .collect(alloc)
 }
 
-/// The types of which no record may be at the name of a new set that begins with this record, if the old zone uses the name (RFC 2136
-/// section 3.4.2.2). The only error is out of memory.
+/// The types of which no record may be at the name of a new set that begins with this record (RFC 2136 section 3.4.2.2). The only error is
+/// out of memory.
 fn types_absent(
     alloc: Global,
     old: &Zone,
@@ -196,17 +204,35 @@ fn push_absent(
     Ok(())
 }
 
+/// Whether names that the old zone does not use are tested whole.
+fn tests_names(scope: GuardScope) -> bool
+    ensures { result ≡ tests_names scope }
+{
+    match scope {
+        GuardScope::Names => true,
+        GuardScope::Sets => false,
+    }
+}
+
+/// Whether it is tested that nobody uses a name.
+fn tests_name(scope: GuardScope, old: &Zone, name: &Name) -> bool
+    ensures { result ≡ tests_name scope old.now.records name.now }
+{
+    tests_names(scope) && is_unused(old, name)
+}
+
 /// Prerequisites, and behind them those for the new set that begins with this record. The only error is out of memory.
 fn push_not_there(
     guards: &mut Vec<Prerequisite>,
     alloc: Global,
+    scope: GuardScope,
     old: &Zone,
     new: &Zone,
     rr: &Record,
 ) -> Result<(), AllocError>
-    ensures { OnOk result (guards.new.items ≡ guards.old.items ++ not_there old.now.records new.now.records rr.now) }
+    ensures { OnOk result (guards.new.items ≡ guards.old.items ++ not_there scope old.now.records new.now.records rr.now) }
 {
-    if !is_unused(old, &rr.owner) {
+    if !tests_name(scope, old, &rr.owner) {
         let types = types_absent(alloc, old, new, rr)?;
         return push_absent(guards, alloc, &rr.owner, &types);
     }
@@ -219,31 +245,33 @@ fn push_not_there(
 /// Prerequisites, and behind them those for the new sets. The only error is out of memory.
 fn with_absences(
     alloc: Global,
+    scope: GuardScope,
     mut guards: Vec<Prerequisite>,
     old: &Zone,
     new: &Zone,
 ) -> Result<Vec<Prerequisite>, AllocError>
     ensures { IfOk result
-        (λ all. all.items ≡ guards.items ++ flat_map (not_there old.now.records new.now.records) (new_firsts old.now.records new.now.records)) }
+        (λ all. all.items ≡ guards.items ++ flat_map (not_there scope old.now.records new.now.records) (new_firsts old.now.records new.now.records)) }
 {
     for record in new.records() {
         if begins_with(set_like(new, record), record) && is_new(old, record) {
-            push_not_there(&mut guards, alloc, old, new, record)?;
+            push_not_there(&mut guards, alloc, scope, old, new, record)?;
         }
     }
     Ok(guards)
 }
 
-/// The prerequisites before the operations between two zones: that each record set of the old zone that changes has its data, in record
+/// The prerequisites of a scope before the operations between two zones: that each record set of the old zone that changes has its data, in record
 /// order, and then that no record keeps out the new sets, in record order. The only error is out of memory.
 pub(crate) fn guards_of(
     alloc: Global,
+    scope: GuardScope,
     old: &Zone,
     new: &Zone,
     operations: &[Operation],
 ) -> Result<Vec<Prerequisite>, AllocError>
-    ensures { IfOk result (λ guards. guards.items ≡ guards_of old.now.records new.now.records operations.now) }
+    ensures { IfOk result (λ guards. guards.items ≡ guards_of scope old.now.records new.now.records operations.now) }
 {
     let guards = guards_there(alloc, old, new, operations)?;
-    with_absences(alloc, guards, old, new)
+    with_absences(alloc, scope, guards, old, new)
 }

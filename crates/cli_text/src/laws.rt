@@ -2,7 +2,7 @@
 
 ghost use Rattle.std.specs.Prelude.{◌≡◌, ◌↔◌, List, ℕ, Some};
 ghost use Rattle.cli_text.specs.Canon.{ZonesAreReadAgain};
-ghost use Rattle.cli_text.specs.Diff.{DiffsLead, DiffsAreMet, DiffsTell, OperationsTell, DiffsHaveRoom, DiffsAreMadeBeside, OperationsAreGuarded, DiffsAreApplied};
+ghost use Rattle.cli_text.specs.Diff.{DiffsLead, DiffsAreMet, DiffsTell, OperationsTell, DiffsHaveRoom, DiffsAreMadeBeside, OperationsAreGuarded, SetsAreEnough, SetsAreTested, NoSoaIsTestedFor, DiffsAreApplied};
 ghost use Rattle.cli_text.specs.Parts.{Parts, IsDivided, divided};
 ghost use Rattle.cli_text.specs.SplitPromises.{SplitsArePartsOf, SplitsHaveFewItems, AdvancesKeepOrder};
 
@@ -35,6 +35,15 @@ pub fn diffs_are_guarded()
     ensures room { DiffsHaveRoom }
     ensures beside { DiffsAreMadeBeside }
     ensures bare { OperationsAreGuarded }
+{}
+
+/// The prerequisites on sets only are met wherever the sets that change have the data of the old zone and no record keeps out what comes,
+/// whatever else is there. Each is on a set that changes: it tests that set, or what RFC 2136 section 3.4.2.2 leaves it out beside. And no
+/// prerequisite of any diff tests that there is no SOA.
+pub fn guards_test_sets()
+    ensures enough { SetsAreEnough }
+    ensures tested { SetsAreTested }
+    ensures soa { NoSoaIsTestedFor }
 {}
 
 /// The parts of an update have its operations in their order and each of its prerequisites once, and no part before that of a prerequisite

@@ -30,7 +30,8 @@ pub use check::{Findings, Subject, do_check, name_if};
 pub use diff::do_diff;
 pub use diff_fault::DiffFault;
 pub use laws::{
-    diffs_are_guarded, diffs_lead, splits_are_parts, text_is_divided, zones_are_read_again,
+    diffs_are_guarded, diffs_lead, guards_test_sets, splits_are_parts, text_is_divided,
+    zones_are_read_again,
 };
 pub use plan::{do_plan, push_signed};
 pub use plan_fault::PlanFault;

@@ -27,9 +27,14 @@ pub fn push_command_answer(
         "reads" => push_reads(alloc, text, &row.body, answer),
         "writes" => push_writes(alloc, text, &row.body, answer),
         "heads" => push_heads(alloc, text, answer),
-        "diff" | "edit" | "diff-guarded" | "edit-guarded" | "diff-reads" | "diff-write" => {
-            push_diff(alloc, row, answer)
-        }
+        "diff"
+        | "edit"
+        | "diff-guarded"
+        | "edit-guarded"
+        | "diff-guarded-sets"
+        | "edit-guarded-sets"
+        | "diff-reads"
+        | "diff-write" => { push_diff(alloc, row, answer) }
         "plan" | "plan-reads" | "plan-write" => push_plan(alloc, row, answer),
         "no-memory" => push_status(alloc, Err(JobFault::Reported(LineFault::NoMemory)), answer),
         name => push_run(

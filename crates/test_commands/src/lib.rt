@@ -9,7 +9,7 @@
 //! prints of each line the words up to its first comma, how many prerequisites and operations it has, how many octets, and a serial. `heads NUMBER|..` prints the first lines of what `explain` prints of each number.
 //!
 //! `diff ORIGIN` gives two master files, with a line `--` between them, to the command, and `diff-guarded` has it print prerequisites
-//! too; `edit ORIGIN` and `edit-guarded` print what `apply` makes of the first and the items; in `diff-reads` the first read of each
+//! too, `diff-guarded-sets` those on sets only; `edit ORIGIN`, `edit-guarded` and `edit-guarded-sets` print what `apply` makes of the first and the items; in `diff-reads` the first read of each
 //! file fails, and in `diff-write` the first write.
 //!
 //! `plan CALLER` gives a policy, and behind a line `==` what `apply` reads, to the command; in `plan-reads` the first read of each input fails,

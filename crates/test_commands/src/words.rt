@@ -1,8 +1,8 @@
 //! What the words of a command line ask for.
 
 use cli_core::{
-    Check, DiffForm, Existing, Job, LogChoice, QuestionWords, RequestForm, RuleChoice, Service,
-    StoreJob, StoredZone, TextForm, TextJob, WordsFault, ZoneFiles, ZoneForm, read_words,
+    Check, DiffForm, Existing, GuardScope, Job, LogChoice, QuestionWords, RequestForm, RuleChoice,
+    Service, StoreJob, StoredZone, TextForm, TextJob, WordsFault, ZoneFiles, ZoneForm, read_words,
 };
 use std::alloc::{AllocError, Global};
 use test_rows::Row;
@@ -205,7 +205,8 @@ fn push_named(name: &str, given: Option<&str>, answer: &mut Vec<u8>) -> Result<(
 fn diff_text(form: DiffForm) -> &'static str {
     match form {
         DiffForm::Bare => "",
-        DiffForm::Guarded => " guarded",
+        DiffForm::Guarded(GuardScope::Names) => " guarded",
+        DiffForm::Guarded(GuardScope::Sets) => " guarded by sets",
     }
 }
 

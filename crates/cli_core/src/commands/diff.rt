@@ -1,10 +1,16 @@
 //! The command `diff`.
 
+ghost use Rattle.std.specs.Prelude.{◌≡◌};
+ghost use Rattle.clap.specs.Words.{first_of, found_of, rows_of};
+ghost use Rattle.cli_core.specs.Commands.{argument_name};
+ghost use Rattle.cli_core.specs.Jobs.{form_by};
+ghost use Rattle.cli_core.specs.Values.{flag_if};
+ghost use Rattle.cli_core.specs.declared.argument.Argument.TheVariants as argument;
 ghost use Rattle.cli_core.specs.declared.commands.Command.TheVariants as command;
 
 use crate::argument::Argument;
 use crate::commands::{CommandWords, Row};
-use crate::job::{DiffForm, Job, TextJob, ZoneFiles};
+use crate::job::{DiffForm, GuardScope, Job, TextJob, ZoneFiles};
 use crate::matched::{flag_at, text_at, texts_at};
 use clap::ArgMatches;
 
@@ -26,10 +32,27 @@ pub(super) static ROW: Row = Row {
     arguments: &[
         Argument::Origin,
         Argument::Guard,
+        Argument::GuardSets,
         Argument::Old,
         Argument::New,
     ],
 };
+
+/// What stands before the items, where not both kinds of prerequisites are asked for.
+fn form_at(matches: &ArgMatches<'_>) -> Option<DiffForm>
+    ensures { result ≡ form_by (flag_if (first_of (argument_name argument.Guard) (rows_of (found_of matches.now))))
+        (flag_if (first_of (argument_name argument.GuardSets) (rows_of (found_of matches.now)))) }
+{
+    match (
+        flag_at(matches, Argument::Guard),
+        flag_at(matches, Argument::GuardSets),
+    ) {
+        (false, false) => Some(DiffForm::Bare),
+        (true, false) => Some(DiffForm::Guarded(GuardScope::Names)),
+        (false, true) => Some(DiffForm::Guarded(GuardScope::Sets)),
+        (true, true) => None,
+    }
+}
 
 impl<'a> CommandWords<'a> for Diff<'a> {
     ghost command = { command.Diff };
@@ -41,11 +64,7 @@ impl<'a> CommandWords<'a> for Diff<'a> {
             return None;
         }
         let files = ZoneFiles { old, new };
-        let form = if flag_at(matches, Argument::Guard) {
-            DiffForm::Guarded
-        } else {
-            DiffForm::Bare
-        };
+        let form = form_at(matches)?;
         Some(Job::Text(TextJob::Diff(Diff {
             origin,
             files,

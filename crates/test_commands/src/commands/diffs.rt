@@ -2,7 +2,7 @@
 
 use crate::commands::devices::{Does, Manner};
 use crate::commands::trials::{Devices, Trial, tried};
-use cli_core::DiffForm;
+use cli_core::{DiffForm, GuardScope};
 use cli_text::{Apply, DiffFault, do_diff};
 use dns_master::{Sink, Source};
 use std::alloc::{AllocError, Global};
@@ -37,7 +37,13 @@ impl Manners {
 
     /// Prerequisites and operations, and devices that never fail.
     const GUARDED: Manners = Manners {
-        form: DiffForm::Guarded,
+        form: DiffForm::Guarded(GuardScope::Names),
+        ..Manners::SOUND
+    };
+
+    /// Prerequisites on sets only, and devices that never fail.
+    const GUARDED_BY_SETS: Manners = Manners {
+        form: DiffForm::Guarded(GuardScope::Sets),
         ..Manners::SOUND
     };
 }
@@ -120,6 +126,8 @@ pub fn push_diff(alloc: Global, row: &Row<'_>, answer: &mut Vec<u8>) -> Result<(
         "edit" => push_edited(alloc, zones, Manners::SOUND, answer),
         "edit-guarded" => push_edited(alloc, zones, Manners::GUARDED, answer),
         "diff-guarded" => push_run(alloc, zones, Manners::GUARDED, answer),
+        "edit-guarded-sets" => push_edited(alloc, zones, Manners::GUARDED_BY_SETS, answer),
+        "diff-guarded-sets" => push_run(alloc, zones, Manners::GUARDED_BY_SETS, answer),
         "diff-reads" => push_failed_reads(alloc, zones, answer),
         "diff-write" => push_failed_write(alloc, zones, answer),
         _ => push_run(alloc, zones, Manners::SOUND, answer),
