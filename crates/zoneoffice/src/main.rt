@@ -63,11 +63,23 @@ fn no_memory(rt: &HostRuntime) -> ExitCode {
     ExitCode::FAILURE
 }
 
-/// Borrows each of the words.
+/// The word for which a word is another spelling: a flag of the parser has no value.
+fn spelled(word: &str) -> &str {
+    if word == "--guard=sets" {
+        "--guard-sets"
+    } else {
+        word
+    }
+}
+
+/// Borrows each of the words, as it is spelled; after `--` no word is an option.
 fn borrowed(alloc: Global, words: &[String]) -> Result<Vec<&str>, AllocError> {
     let mut texts = Vec::new(alloc);
+    let mut are_options = true;
     for word in words {
-        texts.push(word.as_str())?;
+        let word = word.as_str();
+        are_options = are_options && word != "--";
+        texts.push(if are_options { spelled(word) } else { word })?;
     }
     Ok(texts)
 }
