@@ -30,7 +30,7 @@ class Kept:  # pylint: disable=too-few-public-methods
         self.id: str = fields["id"]  # pylint: disable=invalid-name
         self.url: str = fields["url"]
         self.who: str = fields["who"]
-        self.requests: list[Request] = list(map(tuple, fields["requests"]))
+        self.requests: list[Request] = [(one[0], one[1]) for one in fields["requests"]]
         self.done = done
 
 
