@@ -49,7 +49,7 @@ def foresee(zone: Zone, updates: list[Update]) -> tuple[Zone, list[Foreseen]]:
         before = after.copy()
         reasons = [after.make(part) for part in update.operations]
         if len(update.operations) > 1 and same_at(before, after, {part.name for part in update.operations}):
-            reasons = [why or "another operation takes it back" for why in reasons]
+            reasons = [why or "in the end it is as it was" for why in reasons]
         found.append(Foreseen(update, reasons))
     return after, found
 

@@ -30,7 +30,7 @@ class Kept:  # pylint: disable=too-few-public-methods
         self.id: str = fields["id"]  # pylint: disable=invalid-name
         self.url: str = fields["url"]
         self.who: str = fields["who"]
-        self.requests: list[Request] = list(map(tuple, fields["requests"]))
+        self.requests: list[Request] = [(one[0], one[1]) for one in fields["requests"]]
         self.done = done
 
 
@@ -74,7 +74,7 @@ class Pending:
         """The file, once no other process has it; it is the one at the path then."""
         while True:
             number = os.open(self.path, os.O_RDWR | os.O_CREAT | os.O_NOFOLLOW | os.O_CLOEXEC, 0o600)
-            file = open(number, "r+", encoding="utf-8")  # pylint: disable=consider-using-with
+            file = open(number, "r+", encoding="utf-8", errors="replace")  # pylint: disable=consider-using-with
             fcntl.flock(file, fcntl.LOCK_EX)
             try:
                 if os.path.samestat(os.fstat(file.fileno()), os.stat(self.path)):
@@ -137,7 +137,7 @@ def waiting() -> Iterator[tuple[str, Kept]]:
         for name in sorted(os.listdir(state_folder())):
             place = os.path.join(state_folder(), name)
             if name.endswith(".json"):
-                with open(place, encoding="utf-8") as file:
+                with open(place, encoding="utf-8", errors="replace") as file:
                     one = read_kept(file.read(LARGEST))
                 if one:
                     yield place, one

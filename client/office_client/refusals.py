@@ -7,8 +7,8 @@ from typing import Any
 
 from .telling import clean
 
-HERE = os.path.dirname(os.path.dirname(os.path.realpath(__file__)))
-PLACES = HERE, os.path.join(HERE, os.pardir, "web")  # beside the modules, and in the sources
+FOLDER = os.path.dirname(os.path.dirname(os.path.realpath(__file__)))
+PLACES = FOLDER, os.path.join(FOLDER, os.pardir, "web")  # beside the modules, and in the sources
 
 
 @functools.cache
