@@ -247,7 +247,7 @@ def many_at_once(phys, named):
     phys.choose("more", "paste")
     phys.js("const field = document.getElementById('task-text'); field.value = arguments[0]; field.dispatchEvent(new Event('input', {bubbles: true}))", lines)
     phys.wait("document.querySelectorAll('#task-marks .mark').length === 131", "the verdicts")
-    phys.press("#task .main")
+    phys.finish_task()
     phys.wait("document.querySelectorAll('#plan > li').length === 130", "the plan")
     phys.settled()
     expect("day 13, 130 records of a table: sent as several updates", phys.text("review-what"),
@@ -282,7 +282,7 @@ def a_host_with_its_reverse(phys, named):
     phys.write("task-name", "day15.physics")
     phys.write("task-addresses", "192.0.2.240/29 2001:db8::15")
     phys.wait("document.getElementById('task-marks').textContent.includes('then, in')", "what it comes to")
-    phys.press("#task .main")
+    phys.finish_task()
     expect("day 15, a new host at the next free address of a net, with its reverse entry in another zone",
            [line[:2] for line in phys.plan()] + [phys.js("return document.querySelector('#plan .then').textContent")],
            [["day15.physics", "new A 192.0.2.241 1 h"], ["day15.physics", "new AAAA 2001:db8::15 1 h"],
@@ -298,7 +298,7 @@ def a_host_that_moves(phys, named):
     phys.choose("more", "moveHost")
     phys.write("task-name", "day15.physics")
     phys.write("task-addresses", "192.0.2.245")
-    phys.press("#task .main")
+    phys.finish_task()
     expect("day 16, it moves to another address", [line[:2] for line in phys.plan()], [["day15.physics", "A 192.0.2.241 → 192.0.2.245"]])
     result = phys.send("#review-send")
     expect("and its reverse entry with it", (result, named.dig(p("day15")), named.dig(f"241.{REVERSE}", "PTR"), named.dig(f"245.{REVERSE}", "PTR")),
@@ -312,7 +312,7 @@ def a_host_that_goes(phys, named):
     phys.view("records")
     phys.choose("more", "retireHost")
     phys.write("task-name", "day15.physics")
-    phys.press("#task .main")
+    phys.finish_task()
     expect("day 17, a host goes: its records, and the alias of it", sorted(line[0] for line in phys.plan()), ["day15.physics", "day15.physics", "old-name.physics"])
     result = phys.send("#review-send")
     expect("nothing is left of it", (result, named.dig(p("day15"), "ANY"), named.dig(p("old-name"), "CNAME"), named.dig(f"245.{REVERSE}", "PTR")), ("made", [], [], []))
@@ -340,7 +340,7 @@ def mail_for_a_domain(phys, named):
     phys.write("task-domain", "post.physics")
     phys.write("task-servers", "mail mx.example.net")
     phys.write("task-reports", "dmarc@example.org")
-    phys.press("#task .main")
+    phys.finish_task()
     result = phys.send()
     name = f"post.physics.{ZONE}"
     expect("day 19, a domain that gets mail", (result, named.dig(name, "MX"), named.dig(name, "TXT"), named.dig(f"_dmarc.{name}", "TXT")),
@@ -365,35 +365,34 @@ def who_broke_it(phys, named):
     expect("it is live again", (broken, phys.send(), named.dig(p("day1"))), (["203.0.113.1"], "made", ["192.0.2.11"]))
 
 
-def rights_of_others(open_browser, named):
-    """Days of users who have a part of the rights."""
-    browser = open_browser("adder")
-    try:
-        browser.edit("day21.open", "192.0.2.91")
-        (_, _, marks), = browser.plan()
-        expect("day 21, who may add and not check: it is said before, and sent without a guard", marks,
-               ["you may (rule adders)", "sent without a guard, since you may not check this set: no rule grants it (closing)"])
-        expect("it is made", (browser.send(), named.dig(f"day21.open.{ZONE}")), ("made", ["192.0.2.91"]))
-    finally:
-        browser.close()
-    browser = open_browser("keeper")
-    try:
-        label = f"day21.open.{ZONE} A 192.0.2.91"
-        browser.wait(f"document.querySelector(\"[aria-label^='Delete {label}:']\")", "the reason at the button")
-        reason = browser.js("return document.querySelector(arguments[0]).title", f"[aria-label^='Delete {label}']")
-        expect("day 22, who may not delete: the button is grey, with the reason", reason, "you may not delete A at day21.open: no rule grants it (closing)")
-        browser.change(label, "192.0.2.92")
-        (_, _, marks), = browser.plan()
-        disabled = browser.js("return document.getElementById('draft-send').disabled")
-        expect("a change, which deletes too, is said to be denied, with whom to ask", (marks, disabled, "mailto:hostmaster" in browser.js(
-            "return document.querySelector('#plan a').href")), (["you may not delete A at day21.open: no rule grants it (closing)"], True, False))
-        expect("and nothing was made", named.dig(f"day21.open.{ZONE}"), ["192.0.2.91"])
-    finally:
-        browser.close()
+def who_may_add_only(browser, named):
+    browser.sign_in("adder")
+    browser.edit("day21.open", "192.0.2.91")
+    (_, _, marks), = browser.plan()
+    expect("day 21, who may add and not check: it is said before, and sent without a guard", marks,
+           ["you may (rule adders)", "sent without a guard, since you may not check this set: no rule grants it (closing)"])
+    expect("it is made", (browser.send(), named.dig(f"day21.open.{ZONE}")), ("made", ["192.0.2.91"]))
+
+
+def who_may_not_delete(browser, named):
+    browser.sign_in("keeper")
+    label = f"day21.open.{ZONE} A 192.0.2.91"
+    browser.wait(f"document.querySelector(\"[aria-label^='Delete {label}:']\")", "the reason at the button")
+    reason = browser.js("return document.querySelector(arguments[0]).title", f"[aria-label^='Delete {label}']")
+    expect("day 22, who may not delete: the button is grey, with the reason", reason, "you may not delete A at day21.open: no rule grants it (closing)")
+    browser.change(label, "192.0.2.92")
+    (_, _, marks), = browser.plan()
+    disabled = browser.js("return document.getElementById('draft-send').disabled")
+    mail = browser.js("return decodeURIComponent(document.querySelector('#plan a').href)")
+    expect("a change, which deletes too, is said to be denied, with a mail to those who decide",
+           (marks, disabled, f"delete A day21.open.{ZONE} (closing)" in mail), (["you may not delete A at day21.open: no rule grants it (closing)"], True, True))
+    expect("and nothing was made", named.dig(f"day21.open.{ZONE}"), ["192.0.2.91"])
+    browser.press("#undo")
 
 
 def delegations(browser, named):
     """Medicine's servers: names without their dot, keys, what is missing, and the end of it."""
+    browser.sign_in("med")
     name = f"medicine.{ZONE}"
     browser.mine("children", {ZONE: {name: {"checked": "2026-11-30T04:07:00Z", "servers": {f"ns1.{name}": "silent"}, "ds": "none"}}})
     browser.view("delegations")
@@ -447,18 +446,11 @@ def is_it_live(browser, named):
     expect("what the name server has is what the office has", bool(named.take()[ZONE]), True)
 
 
-def all_days(phys, named, open_browser):
-    for story in DAYS:
+def all_days(browser, named):
+    """All of them, in one browser. A day that breaks off is one that differs, and the next one begins anew."""
+    for story in (*DAYS, is_it_live, who_may_add_only, who_may_not_delete, delegations):
         try:
-            story(phys, named)
+            story(browser, named)
         except (TimeoutError, WebDriverException) as fault:
             check(f"the day of {story.__name__.replace('_', ' ')}", str(fault).splitlines()[0])
-            phys.start_anew()
-    is_it_live(phys, named)
-    rights_of_others(open_browser, named)
-    med = open_browser("med")
-    try:
-        delegations(med, named)
-    finally:
-        med.close()
-
+            browser.start_anew()

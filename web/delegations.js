@@ -9,7 +9,7 @@ import {askRights, faultText, mine, readList, rightOf} from "./office.js";
 import {isHost, isWithin, readOwner, readTarget, relative} from "./names.js";
 import {state} from "./state.js";
 import {clock, dateTime, t} from "./text.js";
-import {isSame, setKey} from "./zone.js";
+import {setKey} from "./zone.js";
 
 let checked = {};
 let delegated = [];
@@ -196,9 +196,8 @@ function submit(event) {
 /** Ends a delegation: its servers, its keys, and the addresses that nobody needs then. */
 function endDelegation(child, servers) {
     const names = servers.map(({name}) => name);
-    const own = ["DS", "NS"].flatMap((type) => state.zone.set(child, type)).map((old) => ({old}));
-    const glue = orphaned(child, names).filter(({old}) => !own.some((one) => isSame(one.old, old)));
-    putIn([...own, ...glue], {group: `end ${setKey({name: child, type: "NS"})} ${Date.now()}`});
+    const there = ["DS", "NS"].flatMap((type) => state.zone.set(child, type)).map((old) => ({old}));
+    putIn([...there, ...orphaned(child, names)], {group: `end ${setKey({name: child, type: "NS"})} ${Date.now()}`});
     location.hash = "review";
 }
 

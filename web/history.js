@@ -5,6 +5,7 @@ import {$, afterTyping, button, code, make, say} from "./elements.js";
 import {putIn} from "./draft.js";
 import {toUnicode} from "./names.js";
 import {mine, readList} from "./office.js";
+import {readRecords} from "./reading.js";
 import {state, store, stored} from "./state.js";
 import {clock, dateTime, t} from "./text.js";
 import {readLine} from "./zone.js";
@@ -89,6 +90,9 @@ export function showChanges() {
 
 /** The opposite of a change, as edits that are guarded by what is there now. What is not as it was made is left alone. */
 async function revertChange(change) {
+    if (!await readRecords()) {
+        return;
+    }
     const edits = [];
     const skipped = [];
     for (const {old, now} of movesOf(change)) {

@@ -69,6 +69,7 @@ async function showView(view, focus) {
     document.querySelector(`nav a[data-view="${view}"]`)?.setAttribute("aria-current", "page");
     document.title = `${$(`${view}-head`).textContent} – ${state.zone.origin} – ${t("title")}`;
     if (focus) {
+        $("result").hidden ||= $("result").className === "made"; // it was read
         $(`${view}-head`).focus();
     }
     announce("view");

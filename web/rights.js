@@ -73,7 +73,7 @@ async function showAll() {
         const rules = [...new Set(lines.flatMap(([action, types]) => types.map((type) => rightOf({action, name, type}).by)))];
         const where = t(isBelow ? "newBelow" : "atName", relative(at, state.zone.origin));
         const what = lines.map(([action, types]) => make("li", {}, make("strong", {}, t(`action ${action}`)), ` ${types.length === TYPES.length ? t("allTypes") : types.join(", ")}`));
-        return make("li", {}, make("h4", {}, where), lines.length ? make("ul", {}, ...what) : make("p", {}, t("nothing")),
+        return make("li", {}, make("h3", {}, where), lines.length ? make("ul", {}, ...what) : make("p", {}, t("nothing")),
             ...(rules.length ? [make("p", {class: "soft"}, t("byRules", rules.join(", ")))] : []));
     });
     $("my-list").replaceChildren(make("ul", {class: "rights"}, ...items));
