@@ -71,7 +71,7 @@ def usages():
 def taken(usage):
     """What a usage line takes: options, and words by their places, in brackets where they may be left out."""
     places = count(1)
-    for bracket, option, word in re.findall(r"(\[)?(?:(--\w+)(?: [A-Z][A-Z:]*)?|([A-Z]+))", usage):
+    for bracket, option, word in re.findall(r"(\[)?(?:(--[\w-]+)(?: [A-Z][A-Z:]*)?|([A-Z]+))", usage):
         one = option or f"word {next(places)}"
         yield f"[{one}]" if bracket else one
 
