@@ -53,7 +53,7 @@ function childItem({child, servers}) {
     return make("li", {},
         node("child", make("strong", {title: child}, named(own(child))), " ", ...keyTags(child, states?.ds),
             ...(states ? [make("span", {class: "soft"}, ` ${t("checkedAt", dateTime(states.checked))}`)] : []),
-            make("span", {class: "do"}, able(t("change"), () => openForm({child, servers})), " ", able(t("endDelegation"), () => endDelegation(child, servers)))),
+            " ", make("span", {class: "do"}, able(t("change"), () => openForm({child, servers})), " ", able(t("endDelegation"), () => endDelegation(child, servers)))),
         make("ul", {}, ...servers.map((server) => serverItem(child, server, states?.servers?.[server.name]))));
 }
 
