@@ -67,9 +67,9 @@ COMMANDS = {
 CHANGING = "add", "delete", "set", "delegate", "import", "undo", "nsupdate", "forget"
 
 NOTES = r"""Names: one with a dot in it is absolute, with or without its last dot; a single label is within the zone. Letters beyond ASCII
-are sent as xn--... Before a change the client reads what it concerns: it says where a name could be meant otherwise, or where nothing changes,
-and refuses what name servers would not load. The identifier of an update is kept in $XDG_STATE_HOME/office until the office has
-decided: after a lost reply run the same command again, and the change is made once.
+are sent as xn--... Before a change the client reads what it concerns: it says where a name could be meant otherwise, or where
+nothing changes, and refuses what name servers would not load. The identifier of an update is kept in $XDG_STATE_HOME/office until
+the office has decided: after a lost reply run the same command again, and the change is made once.
 Of a reply, each character that is not printable ASCII is printed as an escape (\uXXXX).
 Status: 0 success; 1 refused, or a right is denied; 2 the request could not be sent, got no reply, or the words are wrong; 3 nothing
 changed, with --strict."""
