@@ -47,8 +47,8 @@ COMMANDS = {
                     "Item lines, as of zoneoffice diff, and nothing is sent. Between two files it is what office import --since "
                     "OLD FILE sends."),
     "import": Command("FILE", "adds the records of a master file or of a piece of one",
-                      "It is guarded, and sent in as many updates as it needs; killed, the same command goes on where it was. A set that is "
-                      "there with other records is refused, or replaced with --replace. --since OLD sends the difference between two "
+                      "It is guarded, and sent in as many updates as it needs; killed, the same command goes on where it was. A set that "
+                      "is there with other records is refused, or replaced with --replace. --since OLD sends the difference between two "
                       "files, deletions too, unless somebody changed the same sets since."),
     "undo": Command("NUMBER", "takes a change back, unless something of it was changed since",
                     "NUMBER is of office log. It is a guarded update, and a change itself: it can be taken back too."),
@@ -66,10 +66,10 @@ COMMANDS = {
 }
 CHANGING = "add", "delete", "set", "delegate", "import", "undo", "nsupdate", "forget"
 
-NOTES = r"""Names: one with a dot in it is absolute, with or without its last dot; a single label is within the zone. Letters beyond ASCII are sent as
-xn--... Before a change the client reads what it concerns: it says where a name could be meant otherwise, or where nothing changes,
-and refuses what name servers would not load. The identifier of an update is kept in $XDG_STATE_HOME/office until the office has
-decided: after a lost reply run the same command again, and the change is made once.
+NOTES = r"""Names: one with a dot in it is absolute, with or without its last dot; a single label is within the zone. Letters beyond ASCII
+are sent as xn--... Before a change the client reads what it concerns: it says where a name could be meant otherwise, or where
+nothing changes, and refuses what name servers would not load. The identifier of an update is kept in $XDG_STATE_HOME/office until
+the office has decided: after a lost reply run the same command again, and the change is made once.
 Of a reply, each character that is not printable ASCII is printed as an escape (\uXXXX).
 Status: 0 success; 1 refused, or a right is denied; 2 the request could not be sent, got no reply, or the words are wrong; 3 nothing
 changed, with --strict."""

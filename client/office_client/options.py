@@ -59,7 +59,7 @@ LISTED = (
     ("split", "", "sends what is too large for one update as several; others see the zone between them"),
     ("replace", "", "import: puts the sets of the file in the place of those there"),
     ("since", "OLD", "import: sends the difference between the file OLD and the other, deletions too"),
-    ("unguarded", "", "import, diff, undo: without prerequisites"),
+    ("unguarded", "", "import, undo: without prerequisites"),
     ("last", "N", "log: so many changes, the newest (20)"),
     ("json", "", "prints one JSON object about all that was done"),
     ("verbose", "", "prints the identifier and the reply of each update"),

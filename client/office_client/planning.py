@@ -57,11 +57,12 @@ def holds(zone: Zone, update: Update, part: Part) -> bool:
     return bool(there) == (part.word == "rrset-exists")
 
 
-def item_of(rights: Rights, update: Update, part: Part, is_operation: bool, idle: str | None, is_held: bool) -> dict[str, Any]:
-    """What is to be said of an item."""
+def item_of(rights: Rights, update: Update, part: Part, mark: str, why: str) -> dict[str, Any]:
+    """What is to be said of an item, which has this mark if the policy allows it."""
+    is_operation = mark in ("makes", "idle")
     lacks, rules = rights.of_part(part, is_operation, update.origin())
-    mark = "denied" if lacks else ("idle" if idle else "makes") if is_operation else "holds" if is_held else "fails"
-    why = "; ".join(map(refusals.lack_line, lacks)) if lacks else idle if idle else "" if is_held else "by the records that you may list"
+    if lacks:
+        mark, why = "denied", "; ".join(map(refusals.lack_line, lacks))
     return {"list": "operations" if is_operation else "prerequisites", "item": part.line(), "mark": mark, "why": why or f"by {rules}",
             "lacks": lacks}
 
@@ -69,10 +70,13 @@ def item_of(rights: Rights, update: Update, part: Part, is_operation: bool, idle
 def plan_update(session: Session, rights: Rights, zone: Zone, foreseen: Foreseen) -> list[dict[str, Any]]:
     """The items of an update in a zone as it is then."""
     update = foreseen.update
-    items = [item_of(rights, update, part, False, None, holds(zone, update, part)) for part in update.prerequisites]
+    items = []
+    for part in update.prerequisites:
+        is_held = holds(zone, update, part)
+        items.append(item_of(rights, update, part, "holds" if is_held else "fails", "" if is_held else "by the records that you may list"))
     for part, why in zip(update.operations, foreseen.reasons):
         unsure = why and not checking.is_sure(session, part, why)
-        items.append(item_of(rights, update, part, True, f"{why}, as far as you may list" if unsure else why, True))
+        items.append(item_of(rights, update, part, "idle" if why else "makes", f"{why}, as far as you may list" if unsure else why or ""))
     return items
 
 

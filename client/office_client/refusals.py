@@ -32,12 +32,12 @@ def text_of(number: object) -> str | None:
 def words(fields: dict[str, Any]) -> str:
     """What the body of a refusal says, in words."""
     what = fields.get("refusal", fields.get("name"))
-    by = f" by {clean(fields['by'][:200])}" if "by" in fields else ""
+    rule = f" by {clean(fields['by'][:200])}" if "by" in fields else ""
     text = text_of(what)
-    return f"refused {clean(str(what)[:200])}{by}{': ' + text if text else ''}"
+    return f"refused {clean(str(what)[:200])}{rule}{': ' + text if text else ''}"
 
 
 def lack_line(lack: dict[str, str]) -> str:
     """A right that lacks, in words."""
-    by = "no rule grants it (closing)" if lack["rule"] == "closing" else f"the rule {lack['rule']} denies it"
-    return f"you lack {lack['action']} {lack['type']} at {lack['name']}: {by}"
+    why = "no rule grants it (closing)" if lack["rule"] == "closing" else f"the rule {lack['rule']} denies it"
+    return f"you lack {lack['action']} {lack['type']} at {lack['name']}: {why}"

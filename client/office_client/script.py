@@ -45,9 +45,9 @@ class Script:
         word, rest = words[0].lower(), re.sub(r"^\s*\S+\s*", "", line)
         if word in ("update", "prereq"):
             word, rest = second_word(word, rest)
-        return self.do(word, rest)
+        return self.act(word, rest)
 
-    def do(self, word: str, rest: str) -> Action | None:
+    def act(self, word: str, rest: str) -> Action | None:
         """What a statement asks to be done, by its word and what is after it."""
         if word in REFUSED:
             raise Bad(f"{word} is refused: {REFUSED[word]}")

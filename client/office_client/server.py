@@ -7,7 +7,6 @@ import http.client
 import json
 import netrc
 import os
-import re
 import signal
 import socket
 import ssl
@@ -218,6 +217,7 @@ class Server:  # pylint: disable=too-many-instance-attributes
             fields["Authorization"] = "Basic " + base64.b64encode(pair).decode()
         return fields
 
+    # pylint: disable-next=too-many-arguments
     def talk(self, connection: http.client.HTTPConnection, method: str, target: str, kind: str, body: str | None) -> Reply:
         """Sends a request on a connection that is open, and gives its reply, which is of a kind."""
         keep = False
@@ -237,6 +237,7 @@ class Server:  # pylint: disable=too-many-instance-attributes
             else:
                 connection.close()
 
+    # pylint: disable-next=too-many-arguments
     def ask(self, method: str, target: str, kind: str, body: str | None = None, before: Callable[[], None] = lambda: None) -> Reply:
         """Sends a request, on the connection that was kept or on a new one, and gives its reply, which is of a kind. What is to be
         done once there is a connection, and before anything is sent, is done then."""

@@ -42,7 +42,8 @@ class Options(unittest.TestCase):
         given = options.Options()
         self.assertEqual(command_of(["plan", "delete", "a"], given), ("delete", ["a"]))
         self.assertTrue(given.dry_run)
-        for words in ([], ["sing"], ["add", "a", "5m", "A"], ["plan"], ["plan", "list"], ["undo"], ["file", "x"], ["diff", "a", "b", "c"]):
+        wrong: list[list[str]] = [[], ["sing"], ["add", "a", "5m", "A"], ["plan"], ["plan", "list"], ["undo"], ["file", "x"], ["diff", "a", "b", "c"]]
+        for words in wrong:
             with self.assertRaises(Bad):
                 command_of(words, options.Options())
 
@@ -83,9 +84,9 @@ class Scripts(unittest.TestCase):
             self.assertIsInstance(script.read_script(one, ["add " + " ".join(words) + "\n", "send\n"])[0], Send)
             if doubtful:
                 with self.assertRaises(Bad):
-                    one.settle("example.org.", lambda name, listed=has: name == listed)
+                    one.settle("example.org.", {has}.__contains__)
             else:
-                one.settle("example.org.", lambda name, listed=has: name == listed)
+                one.settle("example.org.", {has}.__contains__)
 
 
 class Kept(unittest.TestCase):
