@@ -404,7 +404,7 @@ class Reading(Case):
         other.records = self.office.records[:1]
         other.caller = "some"
         other.rights = lambda *_: Right(True, "r1")  # type: ignore[assignment]
-        other.list_records = lambda _: list(other.records)  # type: ignore[assignment]
+        other.list_records = lambda _: list(other.records)  # type: ignore[assignment, misc]
         with self.assertRaises(zones.NotTransferred):
             zones.transfer(zone, other, None, False)  # type: ignore[arg-type]
         self.assertEqual(zones.transfer(zone, other, None, True), [SOA.format(5)] * 2)  # type: ignore[arg-type]
