@@ -105,7 +105,7 @@ export default {
     discard: "Alle verwerfen",
     discardAsk: (number) => `${edits(number)} wirklich verwerfen?`,
     planEmpty: "Es gibt nichts zu senden.",
-    planWhole: "Entweder gilt alles davon oder nichts.",
+    planWhole: "Was gesendet wird, gilt ganz oder gar nicht.",
     planInParts: (number) => `Das ist zu viel auf einmal. Es wird in ${figure(number)} Teilen gesendet, einer nach dem anderen; jeder gilt ganz oder gar nicht.`,
     areConflicts: (number) => `${figure(number)} inzwischen geändert`,
     areDenied: (number) => `${figure(number)} nicht erlaubt`,

@@ -103,7 +103,7 @@ export default {
     discard: "Discard all",
     discardAsk: (number) => `Really discard ${count(number, "change")}?`,
     planEmpty: "There is nothing to send.",
-    planWhole: "All of this is made, or nothing.",
+    planWhole: "What is sent is made whole, or not at all.",
     planInParts: (number) => `This is too much for one update. It is sent as ${figure(number)} updates, one after the other; each is made whole, or not at all.`,
     areConflicts: (number) => `${figure(number)} changed meanwhile`,
     areDenied: (number) => `${figure(number)} you may not make`,
