@@ -170,7 +170,7 @@ fn old_policy<R: Input, W: Sink>(
 }
 
 /// Writes what a policy changes against another: a line for each caller, and each action, that something is given or taken, by scopes
-/// of names. Two inputs are the policy as it is and the other, which is read behind it. Otherwise one line tells the refusal that comes
+/// of names. Two inputs are the policy as it is and the other, which is read after it. Otherwise one line tells the refusal that comes
 /// first: that the policy as it is is too large, or what is wrong in it; and the same of the other.
 pub fn do_changes<R: Input, N: Input, W: Sink>(
     alloc: Global,
