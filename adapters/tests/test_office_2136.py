@@ -79,7 +79,7 @@ class Office:  # pylint: disable=too-many-instance-attributes
 
     def list_records(self, _: str, within: str | None = None, most: int = 1 << 30) -> list[str]:
         """All records for the reader, or those at a name or below it."""
-        found = [line for line in self.records if within is None or line.split(" ")[0].endswith(within)]
+        found = [line for line in self.records if within is None or line.split(" ", maxsplit=1)[0].endswith(within)]
         if sum(map(len, found)) > most:
             raise TooLong
         return found if self.caller == "reader" else []

@@ -212,8 +212,8 @@ class Drift(unittest.TestCase):
 
     def test_settings(self) -> None:
         """A primary has an address; a key has a secret."""
-        for words in ('primary = "ns1"', 'primary = "192.0.2.1#0"', 'primary = "192.0.2.1"\nkey = "k."', 'primary = "192.0.2.1"\nkey = "k."\nsecret = "?"',
-                      "primary = 1"):
+        for words in ('primary = "ns1"', 'primary = "192.0.2.1#0"', "primary = 1", 'primary = "192.0.2.1"\nkey = "k."',
+                      'primary = "192.0.2.1"\nkey = "k."\nsecret = "?"'):
             with self.subTest(words), tempfile.TemporaryDirectory() as folder, self.assertRaises(Wrong):
                 path = pathlib.Path(folder, "takeover.toml")
                 path.write_text(f'url = "http://127.0.0.1:8053"\nzones = ["example.org."]\n{words}\n', encoding="ascii")
