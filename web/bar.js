@@ -192,6 +192,7 @@ function discard() {
     }
     unask();
     takeOut(keys);
+    showAll();
     location.hash = "records";
 }
 
@@ -201,8 +202,8 @@ function unask() {
 }
 
 export function startBar() {
-    ["draft", "zone", "rights", "waiting"].forEach((what) => on(what, later));
-    on("view", showAll);
+    ["draft", "zone", "rights"].forEach((what) => on(what, later));
+    ["view", "waiting"].forEach((what) => on(what, showAll));
     $("undo").addEventListener("click", () => {
         undo();
         showAll();

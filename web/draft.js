@@ -38,10 +38,13 @@ export function readDraft() {
 }
 
 function step(change) {
-    steps.push(JSON.stringify(state.draft));
-    steps.splice(0, steps.length - MOST_STEPS);
-    const draft = {edits: [...state.draft.edits], unguarded: [...state.draft.unguarded]};
+    const before = JSON.stringify(state.draft);
+    const draft = {...state.draft, edits: [...state.draft.edits], unguarded: [...state.draft.unguarded]};
     change(draft);
+    if (JSON.stringify(draft) !== before) {
+        steps.push(before);
+        steps.splice(0, steps.length - MOST_STEPS);
+    }
     keepDraft(state.zone.origin, draft);
 }
 
