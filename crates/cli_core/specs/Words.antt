@@ -1,4 +1,4 @@
--- What a command line asks for, by its words behind the program's name.
+-- What a command line asks for, by the words after the program's name.
 use Rattle.std.specs.Prelude.{◌&&◌, Bool, true, false, not, List, [], ◌∷◌, Option, Some, None, is_some, option_map, option_and_then, codes, find, unwrap_or, if◌then◌else◌}
 use Rattle.std.specs.Str.{bytes_eq}
 use Rattle.clap.specs.Words.{Row, Text, first_of, subcommand_of}
@@ -42,8 +42,8 @@ abbrev pub is_input : Value → Bool
 is_input (text (Some path)) = bytes_eq path (codes "-")
 is_input _ = false
 
--- whether values go together: one of two files at most is standard input, and prerequisites are of one scope; an update has an identifier, or what stands before those of its
--- parts, and only one of them; and a zone is not checked both by one rule only and by all but one
+-- whether values go together: one of two files at most is standard input, and prerequisites are of one scope; an update has an identifier,
+-- or what stands before those of its parts, and only one of them; and a zone is not checked both by one rule only and by all but one
 abbrev pub go_together : Command → List Given → Bool
 go_together command.Diff gs =
     not (is_input (value_of argument.Old gs) && is_input (value_of argument.New gs))

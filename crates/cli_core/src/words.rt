@@ -116,7 +116,7 @@ fn reported(alloc: Global, words: &[&str], error: Error) -> WordsFault
     }
 }
 
-/// The job that the words behind the program's name ask for: none or `apply`; `canon --origin NAME [--relative]`;
+/// The job that the words after the program's name ask for: none or `apply`; `canon --origin NAME [--relative]`;
 /// `diff --origin NAME [--guard | --guard-sets] OLD NEW`, where only one of the two can be `-`; `request (--id ID | --split ID)`;
 /// `import --store PATH --origin NAME [--replace]`; `export --store PATH --origin NAME [--relative]`; `zones --store PATH`;
 /// `log --store PATH --origin NAME [--from N] [--name NAME] [--caller CALLER]`; `migrate --store PATH`;
@@ -124,7 +124,7 @@ fn reported(alloc: Global, words: &[&str], error: Error) -> WordsFault
 /// `serve --store PATH --policy PATH --listen ADDRESS:PORT [--connections N] [--patience SECONDS] [--longest SECONDS]`;
 /// `check policy --policy PATH`; `check isolation --policy PATH --caller CALLER`; `check rights [NAME] --policy PATH`;
 /// `check zone --origin NAME [--only RULE | --not RULE]`; and
-/// `explain [NUMBER] [--json]`. The words behind a command may come in any order.
+/// `explain [NUMBER] [--json]`. The words after a command may come in any order.
 /// `Help` comes where they ask for help or the version, and `Misused` where there is a mistake in them.
 pub fn read_words<'a>(alloc: Global, words: &'a [&'a str]) -> Result<Job<'a>, WordsFault>
     // The job is the one that the words ask for.

@@ -78,7 +78,7 @@ nothing = record { told = []; hand = [] }
 is_nothing : IsNothing nothing
 is_nothing = record { told = refl; hand = refl }
 
--- what came of a start, and the state behind it
+-- what came of a start, and the state after it
 abbrev Comes : (Course → Type 0) → State → Trees → Type 0
 Comes P s next = (c : Course) × P c × HasState next (state_after_deeds s (deeds_of c))
 
@@ -212,7 +212,7 @@ module _ {A F C H P : Type 0} (w : Setting A F C H P) (law : (conn : C) → Sett
     not_served : (service : Service) (outcome : Result (Unit {0}) JobFault) → IsUnserved st.output st.trace outcome → HasState next s → Comes (Serving service outcome) s next
     not_served service outcome why same = (nothing, inl (why, is_nothing), same)
 
-    -- how the table stood before a service and behind it
+    -- how the table stood before a service and after it
     module _ (rules : List Rule) (patience : Option ℕ) (visits : List Visit) (table table_after : TableAt C) (listener listener_after : H) (kept : Kept) where
       abbrev before_it : Moment (TableAt C) H
       before_it = moment_of table (record { state = s; other = Some s }) listener

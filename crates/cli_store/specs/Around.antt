@@ -13,8 +13,8 @@ pub record Around (H : Type 0) : Type 1 where
   pub heard : SocketAddr → H → SocketAddr → Type 0
   pub unheard : SocketAddr → Type 0
 
--- Who calls at a listener: that no further connection can be had; which peer it gives, and which it takes back, with how its connection ended;
--- and what is known of a peer, and of the limits of its reads and writes.
+-- Who calls at a listener: that no further connection can be had; which peer it gives, and which it takes back, with how its connection
+-- ended; and what is known of a peer, and of the limits of its reads and writes.
 pub record Callers (H P : Type 0) : Type 1 where
   pub cut : H → Type 0
   pub gives : H → P → H → Type 0

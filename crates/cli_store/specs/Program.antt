@@ -136,9 +136,9 @@ CheckEnds a i o (check.Isolation policy caller) status = IsUnread i × EndsCheck
 CheckEnds a i o (check.Rights policy name) status = IsUnread i × EndsCheck (Rights name) (a.file policy.now) ⊤ (a.unreadable policy.now) o status
 CheckEnds a i o (check.Zone origin rules) status = EndsCheck (Zone origin rules) i.left (i.after ≡ i.before) (i.before < i.after) o status
 
--- A job that needs no store reads its own input and answers to its own words, and the status is 0 exactly where it went through, and a check
--- found nothing. What is around, standard input, standard output, the job, and the status. A job whose inputs are files, or that has none, does
--- not read standard input.
+-- A job that needs no store reads its own input and answers to its own words, and the status is 0 exactly where it went through, and a
+-- check found nothing. What is around, standard input, standard output, the job, and the status. A job whose inputs are files, or that has
+-- none, does not read standard input.
 abbrev pub TextJobEnds : {H : Type 0} → Around H → Reading → Writing → TextJob → ℕ → Type 0
 TextJobEnds a i o text_job.Apply status = EndsTask i.left (i.after ≡ i.before) (i.before < i.after) apply_text o status
 TextJobEnds a i o (text_job.Canon w) status = EndsTask i.left (i.after ≡ i.before) (i.before < i.after) (canon_text w.form w.origin.now) o status
@@ -152,9 +152,9 @@ TextJobEnds a i o (text_job.Check w) status = CheckEnds a i o w status
 TextJobEnds a i o (text_job.Explain w) status =
     IsUnread i × EndsTask ended.left ended.fine ended.failed (explain_text (option_map (λ n. n.now) w.number) w.form) o status
 
--- A job with a store answers to its own words, and the status is 0 exactly where it went through. What is around, who calls, the stores of paths, standard
--- input, standard output, the trace, the job, the connection that is handed back (which shows what is left of the store that the job reached),
--- and the status. Only an import reads standard input, and only a service writes to the trace.
+-- A job with a store answers to its own words, and the status is 0 exactly where it went through. What is around, who calls, the stores of
+-- paths, standard input, standard output, the trace, the job, the connection that is handed back (which shows what is left of the store
+-- that the job reached), and the status. Only an import reads standard input, and only a service writes to the trace.
 abbrev pub StoreJobEnds : {C H P : Type 0} → Around H → Callers H P → StoresOf C → Reading → Writing → Writing → StoreJob → Option C → ℕ → Type 0
 StoreJobEnds a p s i o t (store_job.Import w) left status =
     IsIdle t × Ends (λ outcome. ImportWritten w.zone.origin.now i.left o.old o.new outcome (i.after ≡ i.before) (i.before < i.after) o.before o.after
@@ -186,15 +186,15 @@ JobEnds a p s i o t (job.Store j) left status = StoreJobEnds a p s i o t j left 
 abbrev pub IsToldWhole : List ℕ → Writing → ℕ → Type 0
 IsToldWhole text o status = (sent : Result (Unit {0}) DeviceFailed) × IsSent o.old o.new text sent o.before o.after × (status ≡ status_of sent)
 
--- What was written and the status where words ask for no job: the help or the version that they ask for; or nothing, where they are misused;
--- or that there is no memory for them.
+-- What was written and the status where words ask for no job: the help or the version that they ask for; or nothing, where they are
+-- misused; or that there is no memory for them.
 abbrev pub EndsFault : WordsFault → Writing → ℕ → Type 0
 EndsFault (fault.Help text) o status = IsToldWhole (string_bytes text) o status
 EndsFault (fault.Misused text) o status = IsIdle o × (status ≡ 2)
 EndsFault fault.NoMemory o status = ((told : ℕ) × IsToldWhole (line_of NoMemory) o told) × (status ≡ 1)
 
--- There is no mistake in the words, and the job that they ask for is done; or they ask for help, are misused, or there is no memory for them,
--- and nothing is read and no store touched.
+-- There is no mistake in the words, and the job that they ask for is done; or they ask for help, are misused, or there is no memory for
+-- them, and nothing is read and no store touched.
 abbrev pub WordsEnd : {C H P : Type 0} → Around H → Callers H P → StoresOf C → Reading → Writing → Writing → List (List ℕ) → Option C → ℕ → Type 0
 WordsEnd a p s i o t words left status =
     ((asked : Job) × (fault_of office words ≡ []) × (job_of words ≡ Some (asks asked)) × JobEnds a p s i o t asked left status)
@@ -202,8 +202,8 @@ WordsEnd a p s i o t words left status =
 
 -- ---- the streams of the process
 
--- The connection that is handed back, what there was to read before and after, what standard output and the trace held before and after, the
--- words, and the status: so the words end, with some failures of each stream.
+-- The connection that is handed back, what there was to read before and after, what standard output and the trace held before and after,
+-- the words, and the status: so the words end, with some failures of each stream.
 abbrev pub IsRun : {C H P : Type 0} → Around H → Callers H P → StoresOf C → Option C → Option (List ℕ) → Option (List ℕ) → Option (List ℕ) → Option (List ℕ) → Option (List ℕ) → Option (List ℕ) → List (List ℕ) → ℕ → Type 0
 IsRun a p s conn left rest old new trace trace_after words status =
     (reads : ℕ) × (writes : ℕ) × (fails : ℕ)

@@ -83,11 +83,11 @@ asked_by service rules cut = record {
   cut = cut;
 }
 
--- What is around, the word that says where to listen, how many connections are asked for, when a listener has no further one, that nothing was
--- done, that connections of a listener were served (what the writer held then, and the listener before and after), what the writer held before
--- and after, the answer, and the writer's failures before and after. The line of why there is no listener is written, and nothing is done; or
--- the line of the address at which a listener was had that the word asks for, and then its connections were served, and their lines are
--- written: fewer than asked for only where that listener has no further one.
+-- What is around, the word that says where to listen, how many connections are asked for, when a listener has no further one, that nothing
+-- was done, that connections of a listener were served (what the writer held then, and the listener before and after), what the writer held
+-- before and after, the answer, and the writer's failures before and after. The line of why there is no listener is written, and nothing is
+-- done; or the line of the address at which a listener was had that the word asks for, and then its connections were served, and their
+-- lines are written: fewer than asked for only where that listener has no further one.
 abbrev pub IsServiceTold : {H : Type 0} → Around H → List ℕ → ℕ → (H → Type 0) → Type 0 → (Option (List ℕ) → H → H → Type 0) → Option (List ℕ) → Option (List ℕ) → Result (Unit {0}) JobFault → ℕ → ℕ → Type 0
 IsServiceTold {H} a listen most cut idle served old new result before after =
     ((fault : LineFault) × IsNoListener a listen fault × IsRefusalWritten old new fault result before after × idle)
@@ -97,9 +97,9 @@ IsServiceTold {H} a listen most cut idle served old new result before after =
     × ((ends : List (Option ServeFault)) × AreReported (cut listener) most ends mid new result before after)
     × (listener_after : H) × served mid listener listener_after)))
 
--- What connections show, what is around, who calls, the words, the rules, the connection to the store when it was opened and when it is handed
--- back, what was written, the answer, and what was written of failures. Whatever connections come: where the store has kept its word,
--- they were served from this store by these rules, one after the other; or it is as it was.
+-- What connections show, what is around, who calls, the words, the rules, the connection to the store when it was opened and when it is
+-- handed back, what was written, the answer, and what was written of failures. Whatever connections come: where the store has kept its
+-- word, they were served from this store by these rules, one after the other; or it is as it was.
 pub record IsServedBy {C H P : Type 0} (shows : C → Shown) (a : Around H) (p : Callers H P) (service : Service) (rules : List Rule) (now after : C) (o : Writing) (result : Result (Unit {0}) JobFault) (t : Writing) : Type 0 where
   pub honest : HasCleanDisk (shows after) → HasCleanDisk (shows now)
   pub before : TableAt C
@@ -111,8 +111,8 @@ pub record IsServedBy {C H P : Type 0} (shows : C → Shown) (a : Around H) (p :
       (record { old = mid; new = o.new; before = o.before; after = o.after }) t)
       o.old o.new result o.before o.after
 
--- The stores of paths, the words, the rules, the connection that is handed back, and the rest as above: the store of the path is refused, and
--- that is told; or it is opened, and connections are served from it by these rules.
+-- The stores of paths, the words, the rules, the connection that is handed back, and the rest as above: the store of the path is refused,
+-- and that is told; or it is opened, and connections are served from it by these rules.
 abbrev pub BeginsBy : {C H P : Type 0} → Around H → Callers H P → StoresOf C → Service → List Rule → Option C → Writing → Result (Unit {0}) JobFault → Writing → Type 0
 BeginsBy {C} a p s service rules left o result t =
     ((refusal : StoreFault) × IsUnopened s.shows (s.finds service.store.now) (s.refuses service.store.now) (s.connects service.store.now) left refusal
@@ -120,7 +120,7 @@ BeginsBy {C} a p s service rules left o result t =
     ⊎ ((now : C) × IsOpened s.shows (s.connects service.store.now) now
     × IsLeft left (λ then. IsServedBy s.shows a p service rules now then o result t))
 
--- The same behind the policy: it is refused, or not read, and that is told, with no store touched; or its rules were read.
+-- The same with the policy read first: it is refused, or not read, and that is reported, with no store touched; or its rules were read.
 abbrev pub Serves : {C H P : Type 0} → Around H → Callers H P → StoresOf C → Service → Option C → Writing → Result (Unit {0}) JobFault → Writing → Type 0
 Serves a p s service left o result t =
     ((fault : LineFault) × GivesOf {X = List Rule} (λ rules. rules) (a.file service.policy.now) policy_read (Err fault) ⊤ (a.unreadable service.policy.now)

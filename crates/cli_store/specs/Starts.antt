@@ -1,5 +1,6 @@
--- Starts of the program on one disk, one after the other, whatever their words ask for. Each finds what the one before it left there, whether
--- that ended or was cut off by a crash: a start that a crash cuts off is one whose disk fails from some call on, also while the store opens.
+-- Starts of the program on one disk, one after the other, whatever their words ask for. Each finds what the one before it left there,
+-- whether that ended or was cut off by a crash: a start that a crash cuts off is one whose disk fails from some call on, also while the
+-- store opens.
 use Rattle.std.specs.Prelude.{◌≡◌, ◌≢◌, ◌⊎◌, ◌<◌, ℕ, Bool, List, [], ◌∷◌, ◌++◌, map, pos, Option, Some, None, IfSome, IsTrue, Result, Ok, Err}
 use Rattle.std.specs.Io.KnownBytes.{Appends}
 use Rattle.std.specs.List.{flat_map}
@@ -74,7 +75,8 @@ pub record IsOldStateIn (db : Trees) (s : State) : Type 0 where
   pub has : HasOldRows db content rows
   pub each : (content : ContentOf) (rows : RowsOf) → HasOldRows db content rows → Means (migrated_content content) s
 
--- The disk has a state: it is in the tables; or there are no tables, and nothing is held; or it is the one that a migration makes of what is there.
+-- The disk has a state: it is in the tables; or there are no tables, and nothing is held; or it is the one that a migration makes of what
+-- is there.
 pub data HasState (db : Trees) (s : State) : Type 0 where
   held : IsStateIn db s → HasState db s
   none : IsBare db → s ≡ nothing_held → HasState db s
@@ -115,8 +117,8 @@ pub record DeedsKeepReceipts : Type 0 where
   pub kept : (s : State) (caller id : List ℕ) (kept : Receipt) (later : List Deed) → s.receipts caller id ≡ Some kept
       → (state_after_deeds s later).receipts caller id ≡ Some kept
 
--- Of the updates of a caller under one identifier only the first changes anything, whatever is called, imported and replaced before, between
--- and after, and by whatever rules.
+-- Of the updates of a caller under one identifier only the first changes anything, whatever is called, imported and replaced before,
+-- between and after, and by whatever rules.
 abbrev pub DeedsAreMadeOnce : Type 0
 DeedsAreMadeOnce =
     (s : State) (caller id : List ℕ) (before between : List Deed) (first again : RuledCall) → IsUpdateUnder caller id first → IsUpdateUnder caller id again
@@ -133,7 +135,8 @@ pub record Setting (A F C H P : Type 0) : Type 1 where
   pub refuses : F → List ℕ → StoreFault → Type 0
   pub connects : F → List ℕ → C → Type 0
 
--- A start: its surroundings, its files, its streams, its words, the connection to the store that it handed back, if it made one, and its status.
+-- A start: its surroundings, its files, its streams, its words, the connection to the store that it handed back, if it made one, and its
+-- status.
 pub record Start (A F C : Type 0) : Type 0 where
   pub around : A
   pub files : F
@@ -211,8 +214,9 @@ IsUnserved o t outcome =
 abbrev pub moment_of : {C H : Type 0} → TableAt C → Kept → H → Moment (TableAt C) H
 moment_of table kept listener = record { table = table; kept = kept; listener = listener }
 
--- The policy was read, and after the line of the address at which a listener was had the connections of its callers were served, from the state
--- that was on the disk. What was made and told is the calls of their turns, and one more may have been made, which was answered SERVFAIL.
+-- The policy was read, and after the line of the address at which a listener was had the connections of its callers were served, from the
+-- state that was on the disk. What was made and told is the calls of their turns, and one more may have been made, which was answered
+-- SERVFAIL.
 pub record IsServed {C H P : Type 0} (shows : C → Shown) (a : Around H) (p : Callers H P) (service : Service) (s : State) (o t : Writing) (outcome : Result (Unit {0}) JobFault) (c : Course) : Type 0 where
   pub rules : List Rule
   pub read : Makes (a.file service.policy.now) policy_read (Ok rules)
@@ -234,8 +238,8 @@ pub record IsServed {C H P : Type 0} (shows : C → Shown) (a : Around H) (p : C
   pub in_hand : IsHand (joined visits) hand
   pub hand_is : c.hand ≡ called_by rules hand
 
--- What is around, who calls, what connections show, the state on the disk, the streams, the job, its status, and what came of it: only an import and
--- a service make anything.
+-- What is around, who calls, what connections show, the state on the disk, the streams, the job, its status, and what came of it: only an
+-- import and a service make anything.
 abbrev pub JobMakes : {C H P : Type 0} → (C → Shown) → Around H → Callers H P → State → Reading → Writing → Writing → Job → ℕ → Course → Type 0
 JobMakes shows a p s i o t (job.Store (store_job.Import w)) status c =
     Ends (λ outcome. IsZoneMade w.zone.origin.now w.existing s i o outcome c ⊎ IsZoneRefused w.zone.origin.now w.existing s i o outcome c) status
@@ -259,9 +263,10 @@ AreCourses w s starts courses = ⊥
 abbrev pub history : List Course → List Deed
 history courses = flat_map deeds_of courses
 
--- From a state on the disk, however often the program is started there, whatever its words are, and however each start ends: there is one history
--- of all calls that were answered on any connection, of all zones that were imported or replaced, and of at most one call or zone for each start of which
--- a failure was told. Each answer is that of the machine at its place in the history, which leads to the state that is on the disk.
+-- From a state on the disk, however often the program is started there, whatever its words are, and however each start ends: there is one
+-- history of all calls that were answered on any connection, of all zones that were imported or replaced, and of at most one call or zone
+-- for each start of which a failure was told. Each answer is that of the machine at its place in the history, which leads to the state that
+-- is on the disk.
 abbrev pub StartsHaveOneHistory : {A F C H P : Type 0} → Setting A F C H P → Type 0
 StartsHaveOneHistory {A} {F} {C} w =
     (s : State) (db end : Trees) (starts : List (Start A F C)) → HasState db s → AreStarts w db starts end

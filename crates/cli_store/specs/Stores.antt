@@ -1,5 +1,5 @@
--- The store of a path: what the files say of the path, what is opened, made, read, written and migrated there, and what the connection to it
--- shows when a command has done with it.
+-- The store of a path: what the files say of the path, what is opened, made, read, written and migrated there, and what the connection to
+-- it shows when a command has done with it.
 use Rattle.std.specs.Prelude.{◌≡◌, ◌≢◌, ◌⊎◌, ℕ, Bool, false, List, Option, Some, None, Result, Ok, Err}
 use Rattle.dns_data.specs.declared.record.Record.{Record}
 use Rattle.sqlite.specs.State.{State as Shown, HasCleanDisk}
@@ -40,7 +40,8 @@ IsStoreLine ReadFailed = ⊥
 
 -- ---- the stores of paths
 
--- What is known of the stores of paths: what a connection to one shows, whether there is a file, why it is refused, and what it connects to.
+-- What is known of the stores of paths: what a connection to one shows, whether there is a file, why it is refused, and what it connects
+-- to.
 pub record StoresOf (C : Type 0) : Type 1 where
   pub shows : C → Shown
   pub finds : List ℕ → Bool → Type 0
@@ -87,8 +88,8 @@ pub record IsUnmade (found left : Shown) (fault : StoreFault) : Type 0 where
 abbrev pub IsMigratedTo : Shown → Shown → ℕ → Type 0
 IsMigratedTo found after zones = HasCleanDisk after → IsMigrated found after zones
 
--- Why it was not migrated: of rows of version 1 only that the store failed or memory ran out; else the tables are not those of version
--- 1, or their rows are not as a program of that version wrote them. It shows what it showed. A crash leaves what it left before, or what was
+-- Why it was not migrated: of rows of version 1 only that the store failed or memory ran out; else the tables are not those of version 1,
+-- or their rows are not as a program of that version wrote them. It shows what it showed. A crash leaves what it left before, or what was
 -- held migrated; and where the tables or rows are wrong, only what it left before.
 pub record IsUnmigrated (found after : Shown) (fault : StoreFault) : Type 0 where
   pub keeps : Keeps found after
@@ -112,7 +113,7 @@ abbrev pub IsRead : {X : Type 0} → (X → List Record) → List (List ℕ) →
 IsRead view origin now after result =
     AsksOnly now after result × (HasCleanDisk after → (s : State) → HoldsState now s → Gives view result (exported (s.zones origin)))
 
--- ---- the store of a path, by what the files say of the path: whether there is a file, why it refuses it, and what it connects to. Behind
+-- ---- the store of a path, by what the files say of the path: whether there is a file, why it refuses it, and what it connects to. After
 -- each comes the connection that is handed back, if one was made: what it shows is what is left of the store.
 
 -- this connection is handed back

@@ -7,10 +7,10 @@ use crate::files::StoreFiles;
 use crate::surroundings::Surroundings;
 use sqlite::Alter;
 
-/// However often the program is started on one disk, whatever its words ask for, and however each start ends, by itself or by a crash at any
-/// call of the disk, also while the store opens: there is one history of all requests that were answered on any connection, of all zones
-/// that were imported or replaced, and of at most one of either in each start that told a failure. It is a run of the machine, each answer
-/// is the one at its place, and it leads to the state that is on the disk.
+/// However often the program is started on one disk, whatever its words ask for, and however each start ends, by itself or by a crash at
+/// any call of the disk, also while the store opens: there is one history of all requests that were answered on any connection, of all
+/// zones that were imported or replaced, and of at most one of either in each start that told a failure. It is a run of the machine, each
+/// answer is the one at its place, and it leads to the state that is on the disk.
 ///
 /// Taken for granted are the path of the store and that nobody else writes there: each start finds what an open after a crash may find of
 /// the one before it.

@@ -30,7 +30,8 @@ pub struct Streams<I, O, E> {
     pub trace: E,
 }
 
-/// What is left once words have ended: the connection to the store that they reached, if they reached one, the streams, and the exit status.
+/// What is left once words have ended: the connection to the store that they reached, if they reached one, the streams, and the exit
+/// status.
 type Left<S, I, O, E> = (Option<Connection<S>>, Streams<I, O, E>, ExitCode);
 
 /// Does what words ask for with streams, whose failures are counted from none on.
@@ -85,8 +86,8 @@ fn run_counted<
     (conn, streams, status)
 }
 
-/// Does what words ask for with streams of std, says what else is known of a refused master file, and hands back the connection to the store
-/// that it reached, if it reached one, and the streams.
+/// Does what words ask for with streams of std, says what else is known of a refused master file, and hands back the connection to the
+/// store that it reached, if it reached one, and the streams.
 pub fn run_words<
     M: Surroundings,
     S: Alter + Drop,

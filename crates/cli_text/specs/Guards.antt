@@ -89,8 +89,8 @@ is_below_origin types.Soa = false
 is_below_origin t = true
 
 -- The types of which no record may be at the name of a set that comes (RFC 2136 section 3.4.2.2). A CNAME is left out beside any other set:
--- all types that the old zone does not have there, but SOA, since a CNAME is below the origin. Another set is left out beside a CNAME: its own type
--- and, once for a name, CNAME, unless the old zone has a CNAME there, which goes.
+-- all types that the old zone does not have there, but SOA, since a CNAME is below the origin. Another set is left out beside a CNAME: its
+-- own type and, once for a name, CNAME, unless the old zone has a CNAME there, which goes.
 abbrev pub types_absent : Records → Records → Record → List RecordType
 types_absent old new r =
     if is_cname (key_of r) then filter (λ t. is_below_origin t && lacks old r.owner t) kept_types

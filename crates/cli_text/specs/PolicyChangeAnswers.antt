@@ -18,8 +18,8 @@ use Rattle.cli_core.specs.Replies.{Answered}
 abbrev pub policy_text : List ℕ → Result (List ℕ) Refusal
 policy_text input = policy_read input >>= λ rules. Ok []
 
--- What was left to read of the policy as it is, what the writer held before and after, how it went, that the input did not fail, that it did,
--- and the writer's failures before and after: the policy was read, and nothing is written; or its refusal is.
+-- What was left to read of the policy as it is, what the writer held before and after, how it went, that the input did not fail, that it
+-- did, and the writer's failures before and after: the policy was read, and nothing is written; or its refusal is.
 abbrev pub IsPolicyRead : Option (List ℕ) → Option (List ℕ) → Option (List ℕ) → Result Policy JobFault → Type 0 → Type 0 → ℕ → ℕ → Type 0
 IsPolicyRead left before after (Ok policy) fine failed writes writes_after =
     Makes left policy_read (Ok policy) × fine × (after ≡ before) × (writes_after ≡ writes)
@@ -32,8 +32,8 @@ AreComparedTo old new before after result writes writes_after =
     (policy : Bor Policy) × Makes old.left policy_read (Ok policy.now) × old.fine
     × Checked (Changes policy) new.left before after result new.fine new.failed writes writes_after
 
--- What is known of the policy as it is and of the other, what the writer held before and after, how it went, and the writer's failures before
--- and after: the policy as it is was refused, or not read, and the other was let be; or else the other was checked against it.
+-- What is known of the policy as it is and of the other, what the writer held before and after, how it went, and the writer's failures
+-- before and after: the policy as it is was refused, or not read, and the other was let be; or else the other was checked against it.
 abbrev pub AreChangesChecked : InputOf → InputOf → Option (List ℕ) → Option (List ℕ) → Result Findings ChangesFault → ℕ → ℕ → Type 0
 AreChangesChecked old new before after (Err (Old fault)) writes writes_after =
     Answered old.left policy_text before after (Err fault) old.fine old.failed writes writes_after × new.fine

@@ -1,5 +1,5 @@
-//! What is true of a policy whatever is asked: which of its rules never decide, what it changes, whether a caller is isolated, and who may do
-//! what. And what is wrong in a zone.
+//! What is true of a policy whatever is asked: which of its rules never decide, what it changes, whether a caller is isolated, and who may
+//! do what. And what is wrong in a zone.
 
 ghost use Rattle.std.specs.Prelude.{◌≡◌, ◌++◌, ◌<◌, ℕ, IfOk, OnOk, decimal, option_map};
 ghost use Rattle.cli_text.specs.RightsCheck.{IsRightsText};
@@ -233,7 +233,7 @@ fn push_other(other: &Option<Identifier>, text: &mut Vec<u8>) -> Result<(), Allo
     }
 }
 
-/// A word, and a name behind it.
+/// A word, and a name after it.
 fn named(alloc: Global, word: &str, name: &Name) -> Result<Vec<u8>, AllocError>
     ensures { IfOk result (λ text. text.items ≡ word.now ++ name_text name.now) }
 {

@@ -72,7 +72,7 @@ fn changes_set(old: &Zone, new: &Zone, operations: &[Operation], rr: &Record) ->
     !are_equal(set_like(old, rr), set_like(new, rr))
 }
 
-/// Prerequisites, and behind them that these records are there. The only error is out of memory.
+/// Prerequisites, and after them that these records are there. The only error is out of memory.
 fn push_there(
     guards: &mut Vec<Prerequisite>,
     alloc: Global,
@@ -186,7 +186,7 @@ fn types_absent(
     Ok(types)
 }
 
-/// Prerequisites, and behind them that no record of some types is at a name. The only error is out of memory.
+/// Prerequisites, and after them that no record of some types is at a name. The only error is out of memory.
 fn push_absent(
     guards: &mut Vec<Prerequisite>,
     alloc: Global,
@@ -221,7 +221,7 @@ fn tests_name(scope: GuardScope, old: &Zone, name: &Name) -> bool
     tests_names(scope) && is_unused(old, name)
 }
 
-/// Prerequisites, and behind them those for the new set that begins with this record. The only error is out of memory.
+/// Prerequisites, and after them those for the new set that begins with this record. The only error is out of memory.
 fn push_not_there(
     guards: &mut Vec<Prerequisite>,
     alloc: Global,
@@ -242,7 +242,7 @@ fn push_not_there(
     Ok(())
 }
 
-/// Prerequisites, and behind them those for the new sets. The only error is out of memory.
+/// Prerequisites, and after them those for the new sets. The only error is out of memory.
 fn with_absences(
     alloc: Global,
     scope: GuardScope,
@@ -261,8 +261,8 @@ fn with_absences(
     Ok(guards)
 }
 
-/// The prerequisites of a scope before the operations between two zones: that each record set of the old zone that changes has its data, in record
-/// order, and then that no record keeps out the new sets, in record order. The only error is out of memory.
+/// The prerequisites of a scope before the operations between two zones: that each record set of the old zone that changes has its data, in
+/// record order, and then that no record keeps out the new sets, in record order. The only error is out of memory.
 pub(crate) fn guards_of(
     alloc: Global,
     scope: GuardScope,

@@ -12,7 +12,7 @@ use policy_tools::{
 };
 use std::alloc::{AllocError, Global};
 
-/// Appends a type behind a space, if an action may be done with it.
+/// Appends a type after a space, if an action may be done with it.
 fn push_type(
     rights: &Rights,
     action: Action,
@@ -28,7 +28,7 @@ fn push_type(
     text.extend_from_slice(record_type.text().as_bytes())
 }
 
-/// Those of some types with which an action may be done, each behind a space.
+/// Those of some types with which an action may be done, each after a space.
 fn types_among(
     alloc: Global,
     rights: &Rights,

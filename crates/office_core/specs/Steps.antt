@@ -27,12 +27,12 @@ abbrev pub Steps : (State → Type 0) → List Rule → State → List ℕ → R
 Steps holds rules s caller request (Servfail fault) = holds s
 Steps holds rules s caller request reply = (reply_of reply ≡ Some (step rules s caller request).reply) × holds (step rules s caller request).after
 
--- The other state that a crash may leave after a request: behind an update none but the one that is held; a query leaves it as it was.
+-- The other state that a crash may leave after a request: after an update none but the one that is held; a query leaves it as it was.
 abbrev pub other_after : Request → State → Option State → Option State
 other_after (Update origin id update) after other = Some after
 other_after (Read query) after other = other
 
--- What a crash leaves behind a reply. Behind an update that was answered it leaves the state after it, and nothing else, whatever it might
+-- What a crash leaves after a reply. After an update that was answered it leaves the state after it, and nothing else, whatever it might
 -- have left before; where the commit failed, the state before or the one after. A query changes nothing, nor does a step that failed before
 -- its commit.
 abbrev pub Leaves : (State → State → Type 0) → List Rule → State → Option State → List ℕ → Request → Reply → Type 0

@@ -38,13 +38,13 @@ pub fn changes_are_exact()
     ensures { ChangesAreExact }
 {}
 
-/// Whatever is called, one call after the other. An update is made exactly where its identifier is new to the caller, its zone
-/// is there, its names are within the zone, the policy grants every point of it and its prerequisites are met; and then it is
-/// made whole (RFC 2136 section 3.4), the serial is greater where anything has changed (RFC 1982), what moved was granted, and
-/// the change is noted. A denial names the first point that is not granted, every other refusal comes exactly where its cause
-/// is, and a repeated update is told the reply that was kept; no receipt is lost, and none comes but that of the update. Any
-/// other request changes nothing, and is told exactly what the caller may see. So a zone is the one at the start with the updates that were made of it, in order,
-/// and the noted changes lead from the one to the other.
+/// Whatever is called, one call after the other. An update is made exactly where its identifier is new to the caller, its zone is there,
+/// its names are within the zone, the policy grants every point of it and its prerequisites are met; and then it is made whole (RFC 2136
+/// section 3.4), the serial is greater where anything has changed (RFC 1982), what moved was granted, and the change is noted. A denial
+/// names the first point that is not granted, every other refusal comes exactly where its cause is, and a repeated update is told the reply
+/// that was kept; no receipt is lost, and none comes but that of the update. Any other request changes nothing, and is told exactly what
+/// the caller may see. So a zone is the one at the start with the updates that were made of it, in order, and the noted changes lead from
+/// the one to the other.
 pub fn calls_are_right()
     ensures { AllCallsAreRight }
 {}

@@ -72,7 +72,7 @@ fn replies_to<T: ZoneTable>(
     ensures unlost { OnErr result ((s t : State) → T.leaves table.old s t → T.leaves table.new s t) }
     ensures uncounted { OnErr result (T.failures table.new ≡ T.failures table.old) }
 {
-    // no reply takes memory here behind a step: there is room for all
+    // no reply takes memory here after a step: there is room for all
     let mut replies = Vec::with_capacity(alloc, calls.len())?;
     for call in calls {
         let reply = step(alloc, table, policy, &call.caller, &call.request);

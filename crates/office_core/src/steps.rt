@@ -33,7 +33,7 @@ pub fn step<T: ZoneTable>(
 ) -> Reply
     // Where the store has kept its word, the reply and the state after it are those of the machine.
     ensures step { T.is_honest table.new → (s : State) → T.holds table.old s → Steps (T.holds table.new) policy.now s caller.now request.now result }
-    // Behind an update that was answered a crash leaves the state after it; where the commit failed, the one before or the one after;
+    // After an update that was answered a crash leaves the state after it; where the commit failed, the one before or the one after;
     // and else what it would have left before.
     ensures crash { T.is_honest table.new → (s : State) (other : Option State) → T.holds table.old s → LeavesOr (T.leaves table.old) s other
         → Leaves (T.leaves table.new) policy.now s other caller.now request.now result }
@@ -46,7 +46,7 @@ pub fn step<T: ZoneTable>(
     step_with_bookmarks(alloc, table, policy, &mut bookmarks, caller, request)
 }
 
-/// The same with bookmarks, so that who asks for changes again pays for those behind the last answer. Bookmarks are kept for one
+/// The same with bookmarks, so that who asks for changes again pays for those after the last answer. Bookmarks are kept for one
 /// policy.
 pub fn step_with_bookmarks<T: ZoneTable>(
     alloc: Global,

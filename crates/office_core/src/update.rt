@@ -66,7 +66,7 @@ fn first_reply<T: ZoneTable>(
 {
     let (reply, addition) = prepared(alloc, table, submission)?;
     match table.commit(alloc, addition) {
-        // nothing takes memory behind a commit
+        // nothing takes memory after a commit
         Ok(()) => Ok(Reply::Update(reply)),
         Err(fault) => Err(StepFault::Commit(fault)),
     }

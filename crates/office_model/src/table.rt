@@ -91,7 +91,7 @@ pub trait ZoneTable {
         ensures reads { ReadsOnly holds is_honest leaves failures self.old self.new result }
         ensures settled { Settles holds is_honest leaves self.new result };
 
-    /// The changes of a zone behind the first ones, so many, and at most so many of them; the oldest first, where there is the zone.
+    /// The changes of a zone after the first ones, so many, and at most so many of them; the oldest first, where there is the zone.
     fn changes_behind(
         &mut self,
         alloc: Global,
@@ -106,7 +106,7 @@ pub trait ZoneTable {
         ensures reads { ReadsOnly holds is_honest leaves failures self.old self.new result }
         ensures settled { Settles holds is_honest leaves self.new result };
 
-    /// What comes next among the changes of a zone behind the first ones, so many, as far as the table remembers what it has read. It may
+    /// What comes next among the changes of a zone after the first ones, so many, as far as the table remembers what it has read. It may
     /// answer without its store.
     fn ahead(
         &mut self,

@@ -118,10 +118,10 @@ pub(crate) enum SubtreeRead {
     Zone,
 }
 
-/// How many records are answered at least behind which the next subtree is read by its zone.
+/// From an answer of so many records on, the next subtree is read by its zone.
 const MANY_RECORDS: usize = 256;
 
-/// By what the next subtree is read behind this one: who asks for many records is likely to ask again.
+/// By what the next subtree is read after this one: who asks for many records is likely to ask again.
 fn next_read(found: &Option<Vec<Record>>) -> SubtreeRead {
     match found {
         Some(records) if records.len() >= MANY_RECORDS => SubtreeRead::Zone,

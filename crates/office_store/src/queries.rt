@@ -204,21 +204,21 @@ pub(crate) fn change_rows<S: Alter>(
     Ok(Some(rows))
 }
 
-/// The number of the first change behind so many.
+/// The number of the first change after so many.
 fn first_behind(count: u32) -> i64
     ensures { result ≡ pos (1 + count) }
 {
     1 + i64::from(count)
 }
 
-/// The number of the first change behind so many and some more.
+/// The number of the first change after so many and some more.
 fn first_after(count: u32, most: u32) -> i64
     ensures { result ≡ pos (1 + count + most) }
 {
     first_behind(count) + i64::from(most)
 }
 
-/// The rows of a zone's changes behind the first ones, so many, and of at most so many of them; in any order, where there is the zone.
+/// The rows of a zone's changes after the first ones, so many, and of at most so many of them; in any order, where there is the zone.
 pub(crate) fn change_rows_behind<S: Alter>(
     alloc: Global,
     conn: &mut Connection<S>,

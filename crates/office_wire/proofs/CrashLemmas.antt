@@ -1,4 +1,4 @@
--- What a crash leaves behind the turns of a stream.
+-- What a crash leaves after the turns of a stream.
 use Rattle.std.proofs.Common.{◌≡◌, ◌⊎◌, ℕ, List, [], ◌∷◌, Some, Result, Ok, refl, sym, ap, ◌∙◌, inl, inr}
 use Rattle.grant_policy.specs.declared.rule.Rule.{Rule}
 use Rattle.office_model.specs.declared.table_fault.StepFault.{StepFault}

@@ -99,14 +99,14 @@ refusing (wrong.Refused refusal) = Refusing refusal
 refusing (wrong.BadBody number) = BadBody number
 refusing wrong.NoMemory = Replied (Servfail (BeforeCommit faults.NoMemory))
 
--- The other state that a crash may leave behind a SERVFAIL: where the commit failed, the one after the call; else the one that it might
+-- The other state that a crash may leave after a SERVFAIL: where the commit failed, the one after the call; else the one that it might
 -- have left before.
 abbrev pub LeavesOther : List Rule → State → Result Call RequestFault → StepFault → Option State → Option State → Type 0
 LeavesOther rules s read (BeforeCommit fault) before after = after ≡ before
 LeavesOther rules s read (Commit fault) before after = (call : Call) × (read ≡ Ok call) × (after ≡ Some (turn rules s call).after)
 
--- What is answered to what was read of a request, and how the table stands behind it: the machine's reply to a call, with the state
--- behind its turn; SERVFAIL, where the table failed or memory ran out, and then the state is as it was; or a refusal, and then it is
+-- What is answered to what was read of a request, and how the table stands after it: the machine's reply to a call, with the state
+-- after its turn; SERVFAIL, where the table failed or memory ran out, and then the state is as it was; or a refusal, and then it is
 -- too.
 pub data Answers (rules : List Rule) (c : Standing) (read : Result Call RequestFault) (response : Response) (d : Standing) : Type 0 where
   replied : (call : Call) (reply : Reply) → read ≡ Ok call → HasUpdate call.request → response ≡ Replied reply

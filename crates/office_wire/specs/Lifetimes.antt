@@ -59,8 +59,9 @@ AreAcknowledged s (l ∷ later) (hand ∷ hands) =
     × AreAcknowledged (state_after_all s (ruled l.rules (calls l.turns ++ hand))) later hands
 AreAcknowledged s lives hands = ⊥
 
--- However many lifetimes there were, and however each ended: there is one history of all calls that were answered in them, and of at most one
--- for each that was answered SERVFAIL. Each answer is that of the machine at its place in the history, which leads to what is on the disk.
+-- However many lifetimes there were, and however each ended: there is one history of all calls that were answered in them, and of at most
+-- one for each that was answered SERVFAIL. Each answer is that of the machine at its place in the history, which leads to what is on the
+-- disk.
 abbrev pub HistoriesAreOne : Type 0
 HistoriesAreOne =
     (s t : State) (lives : List Lifetime) → AreLifetimes s lives t

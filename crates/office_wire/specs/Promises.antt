@@ -73,8 +73,8 @@ pub record IsInHand (rules : List Rule) (turns : List Turn) (d : Standing) : Typ
   pub unanswered : IsUnanswered call turn
   pub left : d.other ≡ Some (after_call rules d.state call)
 
--- Where a crash left nothing but the state before turns, behind them it leaves the state after those that were answered, or the one after one
--- more call, which was answered SERVFAIL.
+-- Where a crash left nothing but the state before turns, after them it leaves the state after those that were answered, or the one after
+-- one more call, which was answered SERVFAIL.
 abbrev pub CrashesLeaveOneMore : Type 0
 CrashesLeaveOneMore =
     (rules : List Rule) (c d : Standing) (turns : List Turn) → c.other ≡ Some c.state → Run rules c turns d

@@ -99,13 +99,13 @@ pub record Mark : Type 0 where
 abbrev pub mark : Kept → ℕ → Servfails → Mark
 mark kept failures note = record { standing = standing kept failures; note = note }
 
--- these turns take a table from one standing to another, and are noted behind those before
+-- these turns take a table from one standing to another, and are noted after those before
 abbrev pub Leads : List Rule → Mark → List Turn → Mark → Type 0
 Leads rules c turns d = Run rules c.standing turns d.standing × (d.note ≡ noted c.note (servfails turns))
 
 -- ---- one request
 
--- this was answered to what was read of a request, in this text, whether it is the last, and how the table stands behind it
+-- this was answered to what was read of a request, in this text, whether it is the last, and how the table stands after it
 pub record IsReplied (rules : List Rule) (c : Mark) (read : Result Call RequestFault) (method : Method) (closing last : Bool) (text : List ℕ) (d : Mark) : Type 0 where
   pub response : Response
   pub answers : Answers rules c.standing read response d.standing
@@ -113,7 +113,7 @@ pub record IsReplied (rules : List Rule) (c : Mark) (read : Result Call RequestF
   pub text_is : text ≡ text_of method response last
   pub note : d.note ≡ noted c.note (servfail_in response)
 
--- this was answered to what the octets begin with, in this text, and how the table stands behind it
+-- this was answered to what the octets begin with, in this text, and how the table stands after it
 abbrev pub IsProgress : List Rule → Mark → List ℕ → Progress → List ℕ → Mark → Type 0
 IsProgress rules c pending (Waiting n) text d = d ≡ c
 IsProgress rules c pending (Next n) text d =

@@ -34,8 +34,9 @@ change_of rows others caller = listed_in (λ (row : CallerChange). row.caller) (
 abbrev pub AreApart : Change → Change → Type 0
 AreApart one other = Differ one.gives other.gives ⊎ Differ one.takes other.takes
 
--- What changes at a name from an old policy to a new one. What is listed of each caller is exactly what the new policy alone grants it there,
--- and what the old one alone does; and a caller has a row of its own, and only one, exactly where something else changes for it than for all others.
+-- What changes at a name from an old policy to a new one. What is listed of each caller is exactly what the new policy alone grants it
+-- there, and what the old one alone does; and a caller has a row of its own, and only one, exactly where something else changes for it than
+-- for all others.
 pub record AreChangesAt (old new : List Rule) (name : List (List ℕ)) (changes : NameChanges) : Type 0 where
   pub gives : (caller : List ℕ) (t : RecordType) (a : Action) → (has_point (change_of changes.named.items changes.others caller).gives t a ≡ true) ↔ IsGrantedOnlyBy new old caller name t a
   pub takes : (caller : List ℕ) (t : RecordType) (a : Action) → (has_point (change_of changes.named.items changes.others caller).takes t a ≡ true) ↔ IsGrantedOnlyBy old new caller name t a
@@ -61,8 +62,8 @@ pub record HasChange (old new : List Rule) (group : NameGroup) : Type 0 where
 abbrev pub IsChangeRow : List Rule → List Rule → GroupChanges → Type 0
 IsChangeRow old new row = (name : List (List ℕ)) → IsName name → IsInGroup (old ++ new) name row.group → AreChangesAt old new name row.changes
 
--- What changes at all names, by groups of names that each rule of both policies covers alike. What a row lists are the changes at each name of its
--- group, and there are some; where a name's group has no row nothing changes there; and rows are in order.
+-- What changes at all names, by groups of names that each rule of both policies covers alike. What a row lists are the changes at each name
+-- of its group, and there are some; where a name's group has no row nothing changes there; and rows are in order.
 pub record AreGroupChanges (old new : List Rule) (rows : List GroupChanges) : Type 0 where
   pub changes : All (IsChangeRow old new) rows
   pub some : All (λ row. HasChange old new row.group) rows

@@ -1,6 +1,6 @@
-//! What is true of a policy whatever is asked: which of its rules never decide, what keeps a caller from being isolated, and who
-//! may do what at each name, and what another policy changes of that. Names are infinitely many, but each is covered by the same rules as one of a short list of names, and
-//! each caller that no rule names is like any other.
+//! What is true of a policy whatever is asked: which of its rules never decide, what keeps a caller from being isolated, and who may do
+//! what at each name, and what another policy changes of that. Names are infinitely many, but each is covered by the same rules as one of a
+//! short list of names, and each caller that no rule names is like any other.
 #![tactic(auto)]
 
 mod changes;

@@ -63,7 +63,7 @@ fn command<'a>(text: &'a str, input: &'a [u8]) -> Command<'a> {
     Command { name, words, input }
 }
 
-/// The number before the first space of a text, and what stands behind it.
+/// The number before the first space of a text, and what follows it.
 fn number(text: &str) -> (usize, &str) {
     let (digits, rest) = text.split_once(' ').unwrap_or((text, ""));
     (digits.parse::<usize>().unwrap_or(0), rest)
@@ -119,7 +119,7 @@ fn push_shape(alloc: Global, line: &str, answer: &mut Vec<u8>) -> Result<(), All
     push("\n", answer)
 }
 
-/// Appends the first serial behind which the other numbers of these rows stand.
+/// Appends the first serial, which the other numbers of these rows follow.
 fn push_serial(line: &str, answer: &mut Vec<u8>) -> Result<(), AllocError> {
     let Some((front, _)) = line.split_once(" 3600 600 86400 60") else {
         return Ok(());

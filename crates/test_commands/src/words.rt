@@ -282,7 +282,7 @@ fn push_service(
     push_number(alloc, " longest ", service.longest, answer)
 }
 
-/// Appends a number behind a word where one was given.
+/// Appends a number after a word where one was given.
 fn push_number(
     alloc: Global,
     word: &str,

@@ -47,8 +47,8 @@ abbrev pub fault_of : Result Ending ServeFault → Option ServeFault
 fault_of (Ok ending) = None
 fault_of (Err fault) = Some fault
 
--- What a table holds, what a crash leaves of it, how many of its calls have failed, and why the last of them did; which peer a listener gives,
--- and which it takes back, with how its connection ended; and what is known of a peer, and of the limits of its reads and writes.
+-- What a table holds, what a crash leaves of it, how many of its calls have failed, and why the last of them did; which peer a listener
+-- gives, and which it takes back, with how its connection ended; and what is known of a peer, and of the limits of its reads and writes.
 pub record Parties (T H P : Type 0) : Type 1 where
   pub holds : T → State → Type 0
   pub leaves : T → State → State → Type 0
@@ -68,9 +68,10 @@ pub record Moment (T H : Type 0) : Type 0 where
 abbrev pub standing_at : {T H P : Type 0} → Parties T H P → Moment T H → Standing
 standing_at w m = standing m.kept (w.failures m.table)
 
--- A connection between two moments. Its peer was the next that the listener gave, and was handed back to it with how it ended. The turns are the requests that
--- this peer sent, and what was written to it are their responses, each before more is read. They are answered by the rules and the state of
--- the moment before, and lead to that of the moment after. No read or write was allowed to wait longer than the patience.
+-- A connection between two moments. Its peer was the next that the listener gave, and was handed back to it with how it ended. The turns
+-- are the requests that this peer sent, and what was written to it are their responses, each before more is read. They are answered by the
+-- rules and the state of the moment before, and lead to that of the moment after. No read or write was allowed to wait longer than the
+-- patience.
 pub record IsVisit {T H P : Type 0} (w : Parties T H P) (rules : List Rule) (patience : Option ℕ) (v : Visit) (before after : Moment T H) : Type 0 where
   pub came : P
   pub went : P
@@ -124,9 +125,9 @@ pub record AreServed {T H P : Type 0} (w : Parties T H P) (rules : List Rule) (p
   pub run : Run rules (standing_at w before) (joined visits) (standing_at w after)
   pub promised : ArePromised rules before.kept.state (joined visits) after.kept.state
 
--- That no connection can be had, how many were asked for, how each ended that was served, what the writer held before and after, the answer,
--- and the writer's failures before and after. A line tells each fault that ended one. Fewer are served only where one cannot be had, which is
--- told, or where a line cannot be written.
+-- That no connection can be had, how many were asked for, how each ended that was served, what the writer held before and after, the
+-- answer, and the writer's failures before and after. A line tells each fault that ended one. Fewer are served only where one cannot be
+-- had, which is told, or where a line cannot be written.
 abbrev pub AreReported : Type 0 → ℕ → List (Option ServeFault) → Option (List ℕ) → Option (List ℕ) → Result (Unit {0}) JobFault → ℕ → ℕ → Type 0
 AreReported cut most ends old new (Ok done) before after = (length ends ≡ most) × Appends old new (ended_lines ends) × (after ≡ before)
 AreReported cut most ends old new (Err (Reported ReadFailed)) before after =
@@ -143,10 +144,10 @@ pub record Asked : Type 1 where
   pub most : ℕ
   pub cut : Type 0
 
--- What is asked, the moment before but for the state, the table and the listener after, the answer, and what was written of connections and of
--- their failures. From each state that the table held, connections were served, one after the other, up to one that it holds now, and so of
--- what a crash leaves; a line
--- tells each fault that ended one of them; and the trace tells of those of their requests that were answered SERVFAIL.
+-- What is asked, the moment before but for the state, the table and the listener after, the answer, and what was written of connections and
+-- of their failures. From each state that the table held, connections were served, one after the other, up to one that it holds now, and so
+-- of what a crash leaves; a line tells each fault that ended one of them; and the trace tells of those of their requests that were answered
+-- SERVFAIL.
 abbrev pub AreServedFrom : {T H P : Type 0} → Parties T H P → Asked → T → H → T → H → Result (Unit {0}) JobFault → Writing → Writing → Type 0
 AreServedFrom w asked table listener table_after listener_after result lines trace =
     (s : Kept) → Keeps (w.holds table) (w.leaves table) s → (visits : List Visit) × (t : Kept) × Keeps (w.holds table_after) (w.leaves table_after) t

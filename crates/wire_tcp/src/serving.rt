@@ -146,8 +146,8 @@ impl<C: Clock, D> Connections<'_, C, D> {
         // Where the store has kept its word: each peer that the listener gave is served, and what it was sent are the responses to the
         // requests that it sent, in order. They are answered by the policy and the states that they found, one connection after the other,
         // which leads the table from how it stood to how it stands, and so what a crash leaves of it; and what the office promises of calls
-        // holds of all of them together, whichever connection each came by. A line is written for each connection that a fault ended, and the trace tells of those of the
-        // requests that were answered SERVFAIL.
+        // holds of all of them together, whichever connection each came by. A line is written for each connection that a fault ended, and
+        // the trace tells of those of the requests that were answered SERVFAIL.
         ensures served { T.is_honest table.new → AreServedFrom
             (record {
               holds = T.holds;

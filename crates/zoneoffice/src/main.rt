@@ -63,7 +63,7 @@ fn no_memory(rt: &HostRuntime) -> ExitCode {
     ExitCode::FAILURE
 }
 
-/// The word for which a word is another spelling: a flag of the parser has no value.
+/// `--guard=sets` as the flag `--guard-sets`, since a flag of the parser takes no value. Any other word is as it is.
 fn spelled(word: &str) -> &str {
     if word == "--guard=sets" {
         "--guard-sets"
@@ -84,7 +84,7 @@ fn borrowed(alloc: Global, words: &[String]) -> Result<Vec<&str>, AllocError> {
     Ok(texts)
 }
 
-/// The words behind the program's name.
+/// The words after the program's name.
 fn given_words(rt: &HostRuntime) -> io::Result<Vec<String>> {
     let mut words = env::args(rt)?;
     let _ = words.next();
