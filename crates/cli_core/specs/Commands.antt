@@ -47,6 +47,9 @@ argument_row argument.Split = (codes "split", Optional)
 argument_row argument.From = (codes "from", Number)
 argument_row argument.Within = (codes "name", Optional)
 argument_row argument.Asker = (codes "caller", Optional)
+argument_row argument.File = (codes "file", Place)
+argument_row argument.AskedName = (codes "name", Place)
+argument_row argument.AskedType = (codes "type", OptionalPlace)
 
 abbrev pub argument_name : Argument → Text
 argument_name a = (argument_row a).0
@@ -74,6 +77,8 @@ command_row command.Serve =
     (codes "serve", argument.Store ∷ argument.Policy ∷ argument.Listen ∷ argument.Connections ∷ argument.Patience ∷ argument.Longest ∷ [])
 command_row command.Check =
     (codes "check", argument.Subject ∷ argument.CheckedName ∷ argument.CheckedPolicy ∷ argument.Against ∷ argument.Isolated ∷ argument.CheckedOrigin ∷ argument.Only ∷ argument.Not ∷ [])
+command_row command.Answer = (codes "answer", argument.Origin ∷ argument.File ∷ argument.AskedName ∷ argument.AskedType ∷ [])
+command_row command.Reverse = (codes "reverse", argument.Origin ∷ argument.File ∷ [])
 command_row command.Explain = (codes "explain", argument.Number ∷ argument.Json ∷ [])
 
 abbrev pub command_word : Command → Text
@@ -85,7 +90,7 @@ arguments_of c = (command_row c).1
 abbrev pub all_commands : List Command
 all_commands =
     command.Apply ∷ command.Canon ∷ command.Diff ∷ command.Request ∷ command.Import ∷ command.Export ∷ command.Zones ∷ command.Log ∷ command.Migrate
-    ∷ command.Rights ∷ command.Plan ∷ command.Serve ∷ command.Check ∷ command.Explain ∷ []
+    ∷ command.Rights ∷ command.Plan ∷ command.Serve ∷ command.Check ∷ command.Answer ∷ command.Reverse ∷ command.Explain ∷ []
 
 -- the command that a word names
 abbrev pub command_of : Text → Option Command

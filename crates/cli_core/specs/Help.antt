@@ -23,6 +23,8 @@ command_about command.Rights = codes "Asks a policy whether a caller may do some
 command_about command.Plan = codes "Says what the office would answer to an update of a zone"
 command_about command.Serve = codes "Answers callers over HTTP"
 command_about command.Check = codes "Checks a policy, the isolation of a caller, or a zone; or prints who may do what"
+command_about command.Answer = codes "Prints what a server answers from a zone"
+command_about command.Reverse = codes "Prints the PTR records that addresses call for"
 command_about command.Explain = codes "Says what the number of a refusal means"
 
 -- how it is used
@@ -40,6 +42,8 @@ command_example command.Rights = codes "Example: zoneoffice rights --policy poli
 command_example command.Plan = codes "Example: zoneoffice plan --policy policy.toml --caller phys < update.txt"
 command_example command.Serve = codes "Example: zoneoffice serve --store office.db --policy policy.toml --listen 127.0.0.1:8053"
 command_example command.Check = codes "Example: zoneoffice check policy --policy policy.toml"
+command_example command.Answer = codes "Example: zoneoffice answer --origin example.org. zone.txt www.example.org. A"
+command_example command.Reverse = codes "Example: zoneoffice reverse --origin 2.0.192.in-addr.arpa. zone.txt"
 command_example command.Explain = codes "Example: zoneoffice explain 29.19.1"
 
 -- ---- the help of the program

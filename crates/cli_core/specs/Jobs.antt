@@ -84,6 +84,8 @@ asks_check (check.Isolation policy caller) =
     (command.Check, subject (codes "isolation") ∷ (argument.CheckedPolicy, given policy.now) ∷ (argument.Isolated, given caller.now) ∷ [])
 asks_check (check.Rights policy name) =
     (command.Check, subject (codes "rights") ∷ (argument.CheckedName, text (option_map (λ n. n.now) name)) ∷ (argument.CheckedPolicy, given policy.now) ∷ [])
+asks_check (check.Expect policy file) =
+    (command.Check, subject (codes "expect") ∷ (argument.CheckedName, text (option_map (λ f. f.now) file)) ∷ (argument.CheckedPolicy, given policy.now) ∷ [])
 asks_check (check.Zone origin rules) = (command.Check, subject (codes "zone") ∷ (argument.CheckedOrigin, given origin.now) ∷ choice_values rules)
 
 abbrev pub asks_text : TextJob → JobOf
@@ -102,6 +104,12 @@ asks_text (text_job.Rights w) = (
 )
 asks_text (text_job.Plan w) = (command.Plan, (argument.Policy, given w.policy.now) ∷ (argument.Caller, given w.caller.now) ∷ [])
 asks_text (text_job.Check w) = asks_check w
+asks_text (text_job.Answer w) = (
+  command.Answer,
+  (argument.Origin, given w.origin.now) ∷ (argument.File, given w.file.now) ∷ (argument.AskedName, given w.name.now)
+      ∷ (argument.AskedType, text (option_map (λ t. t.now) w.asked)) ∷ [],
+)
+asks_text (text_job.Reverse w) = (command.Reverse, (argument.Origin, given w.origin.now) ∷ (argument.File, given w.file.now) ∷ [])
 asks_text (text_job.Explain w) =
     (command.Explain, (argument.Number, text (option_map (λ n. n.now) w.number)) ∷ (argument.Json, flag (is_json w.form)) ∷ [])
 

@@ -15,8 +15,10 @@ use Rattle.store_faults.specs.StoreFaults.{store_fault_number}
 use Rattle.grant_policy.specs.declared.policy_fault.PolicyFault.{PolicyFault}
 use Rattle.grant_policy.specs.declared.policy_fault.PolicyFault.TheVariants as of_policy
 use Rattle.grant_policy.specs.Faults.{fault_number as policy_number}
+use Rattle.cli_core.specs.declared.word_fault.WordFault.{WordFault}
+use Rattle.cli_core.specs.declared.word_fault.WordFault.TheVariants as of_word
 use Rattle.cli_core.specs.declared.refusal.Refusal.{Refusal}
-use Rattle.cli_core.specs.declared.refusal.Refusal.TheVariants.{Name, TypeNotKept, NoCaller, NoAction, NoRule, TooLarge, NoDivider, Master, Zone, Policy, Items, Unmet, UnknownNumber, NoIdentifier, BodyTooLarge, Store}
+use Rattle.cli_core.specs.declared.refusal.Refusal.TheVariants.{Name, TypeNotKept, NoCaller, NoAction, NoRule, TooLarge, NoDivider, Master, Zone, Policy, Items, Unmet, Line, UnknownNumber, NoIdentifier, BodyTooLarge, Store}
 
 -- ---- numbers: that of a refusal, and behind it that of the refusal within it
 
@@ -31,6 +33,13 @@ master_numbers fault = master_number fault ∷ []
 abbrev pub policy_numbers : PolicyFault → List ℕ
 policy_numbers (of_policy.Name rule fault) = 58 ∷ name_number fault ∷ []
 policy_numbers fault = policy_number fault ∷ []
+
+abbrev pub word_number : WordFault → ℕ
+word_number (of_word.Name fault) = name_number fault
+word_number of_word.Type = 17
+word_number of_word.Caller = 54
+word_number of_word.Action = 54
+word_number of_word.Order = 54
 
 abbrev pub refusal_number : Refusal → ℕ
 refusal_number (Name fault) = name_number fault
@@ -48,6 +57,7 @@ refusal_number (Zone fault) = zone_fault_number fault
 refusal_number (Policy fault) = policy_number fault
 refusal_number (Items fault) = items_number fault
 refusal_number (Unmet code item) = rcode_number code
+refusal_number (Line line fault) = word_number fault
 refusal_number (Store fault) = store_fault_number fault
 
 abbrev pub refusal_numbers : Refusal → List ℕ
@@ -66,6 +76,7 @@ abbrev pub refusal_place : Refusal → Option ℕ
 refusal_place TooLarge = Some 0
 refusal_place (Master fault) = fault_line fault
 refusal_place (Items fault) = items_line fault
+refusal_place (Line line fault) = Some line
 refusal_place refusal = None
 
 abbrev pub place_text : Option ℕ → List ℕ

@@ -16,6 +16,7 @@ subjects =
     (codes "policy", argument.CheckedPolicy ∷ argument.Against ∷ [])
     ∷ (codes "isolation", argument.CheckedPolicy ∷ argument.Isolated ∷ [])
     ∷ (codes "rights", argument.CheckedName ∷ argument.CheckedPolicy ∷ [])
+    ∷ (codes "expect", argument.CheckedName ∷ argument.CheckedPolicy ∷ [])
     ∷ (codes "zone", argument.CheckedOrigin ∷ argument.Only ∷ argument.Not ∷ []) ∷ []
 
 -- the arguments that a job of a command reads: those of its row, and of `check` those of its subject
@@ -43,11 +44,14 @@ is_input (text (Some path)) = bytes_eq path (codes "-")
 is_input _ = false
 
 -- whether values go together: one of two files at most is standard input, and prerequisites are of one scope; an update has an identifier,
--- or what stands before those of its parts, and only one of them; and a zone is not checked both by one rule only and by all but one
+-- or what stands before those of its parts, and only one of them; standard input is not both a zone and the questions to it, which have their types; and a zone is not checked both by one rule only and by all but one
 abbrev pub go_together : Command → List Given → Bool
 go_together command.Diff gs =
     not (is_input (value_of argument.Old gs) && is_input (value_of argument.New gs))
     && not (is_given (value_of argument.Guard gs) && is_given (value_of argument.GuardSets gs))
+go_together command.Answer gs =
+    not (is_input (value_of argument.File gs) && is_input (value_of argument.AskedName gs))
+    && not (is_input (value_of argument.AskedName gs) && is_given (value_of argument.AskedType gs))
 go_together command.Request gs =
     if is_given (value_of argument.Id gs) then not (is_given (value_of argument.Split gs)) else is_given (value_of argument.Split gs)
 go_together command.Check gs = not (is_given (value_of argument.Only gs) && is_given (value_of argument.Not gs))

@@ -42,6 +42,9 @@ pub enum Argument {
     From,
     Within,
     Asker,
+    File,
+    AskedName,
+    AskedType,
 }
 
 /// How an argument is written.
@@ -153,7 +156,7 @@ impl Argument {
             Argument::Subject => &Row {
                 name: "subject",
                 form: Form::Place,
-                help: "What to check: policy, isolation, rights or zone",
+                help: "What to check: policy, expect, isolation, rights or zone",
             },
             Argument::CheckedPolicy => &Row {
                 name: "policy",
@@ -173,7 +176,7 @@ impl Argument {
             Argument::CheckedName => &Row {
                 name: "name",
                 form: Form::OptionalPlace,
-                help: "At which name to print rights; by scopes if left out",
+                help: "Of rights the name, by scopes if left out; of expect the file, or - for standard input",
             },
             Argument::Isolated => &Row {
                 name: "caller",
@@ -239,6 +242,21 @@ impl Argument {
                 name: "caller",
                 form: Form::Optional,
                 help: "Only the receipts of this caller",
+            },
+            Argument::File => &Row {
+                name: "file",
+                form: Form::Place,
+                help: "The master file, or - for standard input",
+            },
+            Argument::AskedName => &Row {
+                name: "name",
+                form: Form::Place,
+                help: "The name asked for, or - for a question on each line of standard input",
+            },
+            Argument::AskedType => &Row {
+                name: "type",
+                form: Form::OptionalPlace,
+                help: "The type asked for, ANY, or TYPE and a number; A if left out",
             },
         }
     }

@@ -6,6 +6,7 @@ ghost use Rattle.cli_core.specs.declared.commands.Command.{Command};
 ghost use Rattle.cli_core.specs.Jobs.{asks};
 ghost use Rattle.cli_core.specs.Words.{job_by};
 
+mod answer;
 mod apply;
 mod canon;
 mod check;
@@ -17,12 +18,14 @@ mod log;
 mod migrate;
 mod plan;
 mod request;
+mod reverse;
 mod rights;
 mod serve;
 mod zones;
 
 use crate::argument::Argument;
 use crate::job::Job;
+pub use answer::Answer;
 use apply::Apply;
 pub use canon::Canon;
 pub use check::Check;
@@ -35,6 +38,7 @@ pub use log::Log;
 pub use migrate::Migrate;
 pub use plan::Plan;
 pub use request::Request;
+pub use reverse::Reverse;
 pub use rights::Rights;
 pub use serve::Service;
 pub use zones::Zones;
@@ -55,6 +59,8 @@ pub enum Command {
     Plan,
     Serve,
     Check,
+    Answer,
+    Reverse,
     Explain,
 }
 
@@ -84,7 +90,7 @@ impl Command {
     ghost use Rattle.cli_core.specs.Help.{command_about, command_example};
 
     /// The commands, in the order of the help.
-    pub const ALL: [Command; 14] = [
+    pub const ALL: [Command; 16] = [
         Command::Apply,
         Command::Canon,
         Command::Diff,
@@ -98,6 +104,8 @@ impl Command {
         Command::Plan,
         Command::Serve,
         Command::Check,
+        Command::Answer,
+        Command::Reverse,
         Command::Explain,
     ];
 
@@ -122,6 +130,8 @@ impl Command {
             Command::Plan => &plan::ROW,
             Command::Serve => &serve::ROW,
             Command::Check => &check::ROW,
+            Command::Answer => &answer::ROW,
+            Command::Reverse => &reverse::ROW,
             Command::Explain => &explain::ROW,
         }
     }
@@ -182,6 +192,8 @@ impl Command {
             Command::Plan => Plan::read(matches),
             Command::Serve => Service::read(matches),
             Command::Check => Check::read(matches),
+            Command::Answer => Answer::read(matches),
+            Command::Reverse => Reverse::read(matches),
             Command::Explain => Explain::read(matches),
         }
     }

@@ -1,8 +1,8 @@
 //! What the program is to do.
 
 use crate::commands::{
-    Canon, Check, Diff, Explain, Export, Import, Log, Migrate, Plan, Request, Rights, Service,
-    Zones,
+    Answer, Canon, Check, Diff, Explain, Export, Import, Log, Migrate, Plan, Request, Reverse,
+    Rights, Service, Zones,
 };
 
 /// What the program is to do.
@@ -31,6 +31,10 @@ pub enum TextJob<'a> {
     Plan(Plan<'a>),
     /// To check a policy, the isolation of a caller or a zone, or to print who may do what.
     Check(Check<'a>),
+    /// To print what a server answers from a zone.
+    Answer(Answer<'a>),
+    /// To print the PTR records that the addresses of zones call for.
+    Reverse(Reverse<'a>),
     /// To say what the number of a refusal means.
     Explain(Explain<'a>),
 }

@@ -13,11 +13,12 @@ mod line_fault;
 mod matched;
 mod parser;
 mod refusal;
+mod word_fault;
 mod words;
 
 pub use commands::{
-    Canon, Check, Diff, Explain, Export, Import, Log, Migrate, Plan, Request, Rights, Service,
-    Zones,
+    Answer, Canon, Check, Diff, Explain, Export, Import, Log, Migrate, Plan, Request, Reverse,
+    Rights, Service, Zones,
 };
 pub use device::{ended, write_answer, write_refusal, write_text};
 pub use input::{Input, read_input};
@@ -28,4 +29,5 @@ pub use job::{
 };
 pub use line_fault::{JobFault, LineFault, NO_MEMORY_LINE};
 pub use refusal::{Refusal, RefusalLine};
+pub use word_fault::WordFault;
 pub use words::{WordsFault, read_words};

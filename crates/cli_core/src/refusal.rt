@@ -3,6 +3,7 @@
 ghost use Rattle.std.specs.Prelude.{◌≡◌, Some};
 ghost use Rattle.cli_core.specs.Refusals.{data_numbers, master_numbers, policy_numbers, refusal_number, refusal_numbers, dotted, refusal_place, refused_line};
 
+use crate::word_fault::WordFault;
 use dns_data::DataFault;
 use dns_master::MasterFault;
 use dns_names::NameFault;
@@ -46,6 +47,13 @@ pub enum Refusal {
         /// The number of the item in its list, from 0.
         item: usize,
     },
+    /// A line of the input is no question or no expectation.
+    Line {
+        /// The line, from 1.
+        line: usize,
+        /// What is wrong with it.
+        fault: WordFault,
+    },
     /// A word of the command line is no number that the program prints for a refusal.
     UnknownNumber,
     /// A word of the command line is no identifier of an update.
@@ -76,6 +84,7 @@ impl Refusal {
             Refusal::Policy(fault) => fault.number(),
             Refusal::Items(fault) => fault.number(),
             Refusal::Unmet { code, .. } => code.number(),
+            Refusal::Line { fault, .. } => fault.number(),
             Refusal::Store(fault) => fault.number(),
         }
     }
@@ -88,6 +97,7 @@ impl Refusal {
             Refusal::TooLarge => Some(0),
             Refusal::Master(fault) => fault.line(),
             Refusal::Items(fault) => fault.line(),
+            Refusal::Line { line, .. } => Some(line),
             _ => None,
         }
     }
@@ -117,6 +127,7 @@ impl Display for Refusal {
             Refusal::Policy(fault) => write!(f, "{fault}"),
             Refusal::Items(fault) => write!(f, "{fault}"),
             Refusal::Store(fault) => write!(f, "{fault}"),
+            Refusal::Line { line, fault } => write!(f, "line {line}: {fault}"),
             Refusal::Unmet { code, item } => {
                 write!(f, "item {item} of the update is refused: {}", code.text())
             }

@@ -60,6 +60,7 @@ fn mistake_in(matches: &ArgMatches<'_>) -> &'static str {
     match matches.subcommand() {
         Some(("diff", _)) =>
             "only one of OLD and NEW can be -, which is standard input, and only one kind of --guard is given",
+        Some(("answer", _)) => "only one of FILE and NAME can be -, which is standard input; questions there have their types",
         Some(("request", _)) => "one of --id and --split is needed, and only one of them",
         _ => "the words name no job: see the example of zoneoffice COMMAND --help",
     }
@@ -122,8 +123,9 @@ fn reported(alloc: Global, words: &[&str], error: Error) -> WordsFault
 /// `log --store PATH --origin NAME [--from N] [--name NAME] [--caller CALLER]`; `migrate --store PATH`;
 /// `rights --policy PATH --caller CALLER NAME TYPE ACTION`; `plan --policy PATH --caller CALLER`;
 /// `serve --store PATH --policy PATH --listen ADDRESS:PORT [--connections N] [--patience SECONDS] [--longest SECONDS]`;
-/// `check policy --policy PATH`; `check isolation --policy PATH --caller CALLER`; `check rights [NAME] --policy PATH`;
-/// `check zone --origin NAME [--only RULE | --not RULE]`; and
+/// `check policy --policy PATH [--against PATH]`; `check expect [FILE] --policy PATH`; `check isolation --policy PATH --caller CALLER`;
+/// `check rights [NAME] --policy PATH`; `check zone --origin NAME [--only RULE | --not RULE]`;
+/// `answer --origin NAME FILE NAME [TYPE]`, where only one of file and name can be `-`, and a type is of a name; `reverse --origin NAME FILE`; and
 /// `explain [NUMBER] [--json]`. The words after a command may come in any order.
 /// `Help` comes where they ask for help or the version, and `Misused` where there is a mistake in them.
 pub fn read_words<'a>(alloc: Global, words: &'a [&'a str]) -> Result<Job<'a>, WordsFault>

@@ -30,6 +30,10 @@ use Rattle.cli_text.specs.declared.check.Subject.TheVariants.{Rules, Isolation, 
 use Rattle.cli_text.specs.declared.changes_fault.ChangesFault.{ChangesFault}
 use Rattle.cli_text.specs.declared.diff_fault.DiffFault.{DiffFault}
 use Rattle.cli_core.specs.Inputs.{InputOf}
+use Rattle.cli_core.specs.declared.commands.answer.Answer.{Answer}
+use Rattle.cli_text.specs.declared.answer_fault.AnswerFault.{AnswerFault}
+use Rattle.cli_text.specs.Answer.{answer_text, IsInquired}
+use Rattle.cli_text.specs.Reverse.{reverse_text}
 use Rattle.cli_text.specs.Apply.{apply_text}
 use Rattle.cli_text.specs.Canon.{canon_text}
 use Rattle.cli_text.specs.Request.{request_text}
@@ -99,6 +103,12 @@ abbrev pub EndsTask : Option (List ℕ) → Type 0 → Type 0 → (List ℕ → 
 EndsTask left fine failed answer o status = (outcome : Result (Unit {0}) JobFault)
     × Answered left answer o.old o.new outcome fine failed o.before o.after × (status ≡ status_of outcome)
 
+-- the same of the input that a path names: standard input, if it is `-`, or a file
+abbrev pub EndsTaskOf : {H : Type 0} → Around H → Reading → List ℕ → (List ℕ → Result (List ℕ) Refusal) → Writing → ℕ → Type 0
+EndsTaskOf a i path answer o status =
+    ((path ≢ codes "-") × IsUnread i × EndsTask (a.file path) ⊤ (a.unreadable path) answer o status)
+    ⊎ ((path ≡ codes "-") × EndsTask i.left (i.after ≡ i.before) (i.before < i.after) answer o status)
+
 -- the same of a check: at 0 the policy was read, and nothing was found in it
 abbrev pub EndsCheck : Subject → Option (List ℕ) → Type 0 → Type 0 → Writing → ℕ → Type 0
 EndsCheck subject left fine failed o status = (outcome : Result Findings JobFault)
@@ -128,6 +138,18 @@ abbrev pub requested : RequestForm → List ℕ → List ℕ → Result (List �
 requested Whole word = request_text word
 requested Split word = split_text word
 
+-- what is answered to the questions of standard input, from the zone of a file; nothing is left there for a zone
+abbrev pub IsInquiredOf : {H : Type 0} → Around H → Reading → Answer → Writing → Result (Unit {0}) AnswerFault → Type 0
+IsInquiredOf a i w o outcome =
+    let inquired = λ (zone : InputOf). IsInquired w.origin.now (standard i) zone o.old o.new outcome o.before o.after in
+    ((w.file.now ≢ codes "-") × inquired (named a w.file.now)) ⊎ ((w.file.now ≡ codes "-") × inquired ended)
+
+-- what is answered from the zone of a path: to one question, or where the name is `-`, to those of standard input
+abbrev pub AnswerEnds : {H : Type 0} → Around H → Reading → Answer → Writing → ℕ → Type 0
+AnswerEnds a i w o status =
+    ((w.name.now ≢ codes "-") × EndsTaskOf a i w.file.now (answer_text w.origin.now w.name.now (option_map (λ t. t.now) w.asked)) o status)
+    ⊎ ((w.name.now ≡ codes "-") × Ends (λ outcome. IsInquiredOf a i w o outcome) status)
+
 -- A check reads the file of its policy, and of another against which it is checked, or standard input where that is a zone.
 abbrev pub CheckEnds : {H : Type 0} → Around H → Reading → Writing → Check → ℕ → Type 0
 CheckEnds a i o (check.Policy policy None) status = IsUnread i × EndsCheck Rules (a.file policy.now) ⊤ (a.unreadable policy.now) o status
@@ -149,6 +171,8 @@ TextJobEnds a i o (text_job.Rights w) status =
 TextJobEnds a i o (text_job.Plan w) status =
     Ends (λ outcome. IsPlanned w.caller.now (named a w.policy.now) (standard i) o.old o.new outcome o.before o.after) status
 TextJobEnds a i o (text_job.Check w) status = CheckEnds a i o w status
+TextJobEnds a i o (text_job.Answer w) status = AnswerEnds a i w o status
+TextJobEnds a i o (text_job.Reverse w) status = EndsTaskOf a i w.file.now (reverse_text w.origin.now) o status
 TextJobEnds a i o (text_job.Explain w) status =
     IsUnread i × EndsTask ended.left ended.fine ended.failed (explain_text (option_map (λ n. n.now) w.number) w.form) o status
 

@@ -5,7 +5,7 @@ ghost use Rattle.std.specs.Process.{exit_status};
 ghost use Rattle.sqlite.specs.Held.{state};
 ghost use Rattle.cli_text.specs.Plan.{IsPlanned};
 ghost use Rattle.cli_store.specs.Stores.{stores_of};
-ghost use Rattle.cli_store.specs.Program.{Ends, EndsTask, EndsCheck, EndsChanges, DiffersBy, named, standard, requested, CheckEnds, TextJobEnds, StoreJobEnds, JobEnds, EndsFault, WordsEnd, IsToldWhole, status_of, check_status_of};
+ghost use Rattle.cli_store.specs.Program.{Ends, EndsTask, EndsCheck, EndsChanges, EndsTaskOf, IsInquiredOf, AnswerEnds, DiffersBy, named, standard, requested, CheckEnds, TextJobEnds, StoreJobEnds, JobEnds, EndsFault, WordsEnd, IsToldWhole, status_of, check_status_of};
 
 use crate::files::StoreFiles;
 use crate::migration::migrate;
@@ -15,12 +15,12 @@ use crate::store_log::log;
 use crate::surroundings::{Ended, NamedFile, Surroundings};
 use crate::zones::{export, import};
 use cli_core::{
-    Check, DiffForm, Input, Job, JobFault, NO_MEMORY_LINE, RequestForm, StoreJob, TextJob,
+    Answer, Check, DiffForm, Input, Job, JobFault, NO_MEMORY_LINE, RequestForm, StoreJob, TextJob,
     WordsFault, ZoneFiles, read_words, write_text,
 };
 use cli_text::{
-    Apply, DiffFault, Findings, Request, Split, Subject, Task, do_changes, do_check, do_diff,
-    do_plan,
+    AnswerFault, Apply, DiffFault, Findings, Request, Split, Subject, Task, do_answers,
+    do_changes, do_check, do_diff, do_plan,
 };
 use dns_master::{Sink, Source};
 use sqlite::{Alter, Connection};
@@ -219,6 +219,66 @@ fn request<M: Surroundings, I: Input, W: Sink>(
     }
 }
 
+/// Does a task with the input that a path names: standard input, if it is `-`, or a file.
+fn do_task_of<M: Surroundings, T: Task, R: Source, W: Sink>(
+    around: &M,
+    task: T,
+    path: &str,
+    input: &mut R,
+    output: &mut W,
+) -> ExitCode
+    ensures { EndsTaskOf (M.around around.now)
+        (record { left = R.remaining input.old; rest = R.remaining input.new; before = R.failures input.old; after = R.failures input.new }) path.now
+        (T.answer task)
+        (record { old = W.contents output.old; new = W.contents output.new; before = W.failures output.old; after = W.failures output.new })
+        (exit_status result) }
+{
+    if is_standard(path) {
+        return do_task(around, task, input, output);
+    }
+    let mut file = NamedFile { around, path };
+    do_task(around, task, &mut file, output)
+}
+
+/// Writes what a server answers to the questions of standard input, from the zone of a path.
+fn answers<M: Surroundings, R: Source, W: Sink>(
+    around: &M,
+    words: Answer<'_>,
+    input: &mut R,
+    output: &mut W,
+) -> Result<(), AnswerFault>
+    ensures { IsInquiredOf (M.around around.now)
+        (record { left = R.remaining input.old; rest = R.remaining input.new; before = R.failures input.old; after = R.failures input.new }) words
+        (record { old = W.contents output.old; new = W.contents output.new; before = W.failures output.old; after = W.failures output.new }) result }
+{
+    if is_standard(words.file) {
+        return do_answers(around.alloc(), words.origin, input, &mut Ended, output);
+    }
+    let mut zone = NamedFile {
+        around,
+        path: words.file,
+    };
+    do_answers(around.alloc(), words.origin, input, &mut zone, output)
+}
+
+/// Writes what a server answers from the zone of a path: to one question, or to those of standard input.
+fn answer<M: Surroundings, R: Source, W: Sink>(
+    around: &M,
+    words: Answer<'_>,
+    input: &mut R,
+    output: &mut W,
+) -> ExitCode
+    ensures { AnswerEnds (M.around around.now)
+        (record { left = R.remaining input.old; rest = R.remaining input.new; before = R.failures input.old; after = R.failures input.new }) words
+        (record { old = W.contents output.old; new = W.contents output.new; before = W.failures output.old; after = W.failures output.new })
+        (exit_status result) }
+{
+    if is_standard(words.name) {
+        return ended(around, answers(around, words, input, output));
+    }
+    do_task_of(around, words, words.file, input, output)
+}
+
 /// Writes what an office with the policy of a path would answer a caller, by an input that has a zone and an update.
 fn plan<M: Surroundings, R: Source, W: Sink>(
     around: &M,
@@ -271,6 +331,8 @@ pub fn do_text_job<M: Surroundings, R: Source, W: Sink>(
         }
         TextJob::Plan(words) => plan(around, words.policy, words.caller, input, output),
         TextJob::Check(words) => check_job(around, words, input, output),
+        TextJob::Answer(words) => answer(around, words, input, output),
+        TextJob::Reverse(words) => do_task_of(around, words, words.file, input, output),
         TextJob::Explain(words) => do_task(around, words, &mut Ended, output),
     }
 }

@@ -2,6 +2,7 @@ pub mod ItemLemmas
 pub mod LineLemmas
 pub mod PartLemmas
 pub mod PlanLemmas
+pub mod QuestionLemmas
 pub mod ReadAgainLemmas
 pub mod ExplainLemmas
 pub mod GuardLaws

@@ -4,6 +4,9 @@ pub mod Apply
 pub mod PartViews
 pub mod Rights
 pub mod Explain
+pub mod Questions
+pub mod QuestionViews
+pub mod Answer
 pub mod ZoneCheck
 pub mod RightsCheck
 pub mod PolicyChanges

@@ -1,7 +1,9 @@
-//! The commands that need no store, `canon`, `apply`, `diff`, `request`, `rights`, `plan`, `check` and `explain`: each writes its answer to
+//! The commands that need no store, `canon`, `apply`, `diff`, `request`, `rights`, `plan`, `check`, `answer`, `reverse` and `explain`: each writes its answer to
 //! an input, or one line that says why it has no answer.
 #![tactic(auto)]
 
+mod answer;
+mod answer_fault;
 mod apply;
 mod canon;
 mod changes_fault;
@@ -18,6 +20,8 @@ mod pieces;
 mod plan;
 mod plan_fault;
 mod policy_changes;
+mod query_type;
+mod questions;
 mod request;
 mod rights;
 mod rights_check;
@@ -26,6 +30,8 @@ mod split;
 mod task;
 mod zone_check;
 
+pub use answer::do_answers;
+pub use answer_fault::AnswerFault;
 pub use apply::Apply;
 pub use canon::{print_zone_in, read_name, read_zone};
 pub use changes_fault::ChangesFault;

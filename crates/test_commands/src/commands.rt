@@ -1,11 +1,13 @@
 //! What commands print.
 
+mod answers;
 mod devices;
 mod diffs;
 mod plans;
 mod policies;
 mod trials;
 
+use crate::commands::answers::push_answers;
 use crate::commands::devices::{Command, Manner};
 use crate::commands::diffs::push_diff;
 use crate::commands::plans::push_plan;
@@ -37,6 +39,7 @@ pub fn push_command_answer(
         | "edit-guarded-sets"
         | "diff-reads"
         | "diff-write" => { push_diff(alloc, row, answer) }
+        "answers" | "answers-reads" => push_answers(alloc, row, answer),
         "plan" | "plan-reads" | "plan-write" => push_plan(alloc, row, answer),
         "against" | "against-reads" | "against-write" => push_against(alloc, row, answer),
         "no-memory" => push_status(alloc, Err(JobFault::Reported(LineFault::NoMemory)), answer),

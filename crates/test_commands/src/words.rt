@@ -90,6 +90,13 @@ fn push_text_job(job: &TextJob<'_>, answer: &mut Vec<u8>) -> Result<(), AllocErr
         TextJob::Rights(words) => push_question(words.policy, &words.asked, answer),
         TextJob::Plan(words) => push_plan(words.policy, words.caller, answer),
         TextJob::Check(words) => push_check(words, answer),
+        TextJob::Answer(words) => {
+            push_all(&["answer (", words.origin, ") (", words.file, ") (", words.name, ")"], answer)?;
+            push_if_given(words.asked, answer)
+        }
+        TextJob::Reverse(words) => {
+            push_all(&["reverse (", words.origin, ") (", words.file, ")"], answer)
+        }
         TextJob::Explain(words) => push_explain(words.number, words.form, answer),
     }
 }
@@ -99,6 +106,10 @@ fn push_check(words: &Check<'_>, answer: &mut Vec<u8>) -> Result<(), AllocError>
         Check::Policy { policy, against } => {
             push_all(&["check policy (", policy, ")"], answer)?;
             push_if_given(*against, answer)
+        }
+        Check::Expect { policy, file } => {
+            push_all(&["check expect (", policy, ")"], answer)?;
+            push_if_given(*file, answer)
         }
         Check::Isolation { policy, caller } => push_all(
             &["check isolation (", policy, ") (", caller, ")"],

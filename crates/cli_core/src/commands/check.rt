@@ -36,6 +36,13 @@ pub enum Check<'a> {
         /// At which name, and by scopes where none is given.
         name: Option<&'a str>,
     },
+    /// To find what is expected of a policy and is not so.
+    Expect {
+        /// The path of the policy.
+        policy: &'a str,
+        /// The path of what is expected, and standard input where none is given.
+        file: Option<&'a str>,
+    },
     /// To find what name servers refuse in a zone that is read from standard input.
     Zone {
         /// The name of its origin.
@@ -79,6 +86,7 @@ fn check_in<'a>(subject: &str, matches: &ArgMatches<'a>) -> Option<Check<'a>>
         "policy" => policy_in(matches),
         "isolation" => isolation_in(matches),
         "rights" => rights_in(matches),
+        "expect" => expect_in(matches),
         "zone" => zone_in(matches),
         _ => None,
     }
@@ -108,6 +116,15 @@ fn rights_in<'a>(matches: &ArgMatches<'a>) -> Option<Check<'a>>
     let policy = text_at(matches, Argument::CheckedPolicy)?;
     let name = text_at(matches, Argument::CheckedName);
     Some(Check::Rights { policy, name })
+}
+
+/// The job of `check expect`.
+fn expect_in<'a>(matches: &ArgMatches<'a>) -> Option<Check<'a>>
+    ensures { option_map asks_check result ≡ check_by (codes "expect") (rows_of (found_of matches.now)) }
+{
+    let policy = text_at(matches, Argument::CheckedPolicy)?;
+    let file = text_at(matches, Argument::CheckedName);
+    Some(Check::Expect { policy, file })
 }
 
 /// The job of `check zone`, where not both one rule only and all but one are asked for.

@@ -1,7 +1,7 @@
 //! Commands, and the devices that they read and write.
 
 use crate::commands::trials::{Devices, Trial, tried};
-use cli_core::{Canon, Explain, JobFault, QuestionWords, TextForm, ZoneForm};
+use cli_core::{Answer, Canon, Explain, JobFault, QuestionWords, TextForm, ZoneForm};
 use cli_text::{Apply, Findings, Request, Split, Subject, Task, do_check};
 use dns_master::{Pieces, Sink, Source};
 use std::alloc::{AllocError, Global};
@@ -57,6 +57,7 @@ impl Command<'_> {
             "request" => self.run_task(alloc, Request { id: words }, reading, writing),
             "split" => self.run_task(alloc, Split { id: words }, reading, writing),
             "rights" => self.run_task(alloc, question(words), reading, writing),
+            "answer" => self.run_task(alloc, question_in(words), reading, writing),
             "explain" => self.run_task(alloc, asked(words), reading, writing),
             "check" => self.run_check(alloc, Subject::Rules, reading, writing),
             "isolation" => self.run_check(alloc, Subject::Isolation(words), reading, writing),
@@ -166,6 +167,17 @@ fn question(words: &str) -> QuestionWords<'_> {
         name: words.next().unwrap_or(""),
         record_type: words.next().unwrap_or(""),
         action: words.next().unwrap_or(""),
+    }
+}
+
+/// What words with bars between them ask about a zone: its origin, a name, and a type, if there is one.
+fn question_in(words: &str) -> Answer<'_> {
+    let mut words = words.split('|');
+    Answer {
+        origin: words.next().unwrap_or(""),
+        file: "-",
+        name: words.next().unwrap_or(""),
+        asked: words.next(),
     }
 }
 
