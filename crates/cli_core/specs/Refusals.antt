@@ -39,7 +39,9 @@ word_number (of_word.Name fault) = name_number fault
 word_number of_word.Type = 17
 word_number of_word.Caller = 54
 word_number of_word.Action = 54
-word_number of_word.Order = 54
+word_number of_word.Rule = 54
+word_number of_word.Question = 54
+word_number of_word.Expectation = 54
 
 abbrev pub refusal_number : Refusal → ℕ
 refusal_number (Name fault) = name_number fault

@@ -19,8 +19,12 @@ pub enum WordFault {
     Caller,
     /// A word is no action.
     Action,
-    /// The words are in no order that is read.
-    Order,
+    /// A word is no identifier of a rule.
+    Rule,
+    /// The words are no question.
+    Question,
+    /// The words are no expectation.
+    Expectation,
 }
 
 impl WordFault {
@@ -31,7 +35,11 @@ impl WordFault {
         match self {
             WordFault::Name(fault) => fault.number(),
             WordFault::Type => 17,
-            WordFault::Caller | WordFault::Action | WordFault::Order => 54,
+            WordFault::Caller
+            | WordFault::Action
+            | WordFault::Rule
+            | WordFault::Question
+            | WordFault::Expectation => 54,
         }
     }
 }
@@ -43,12 +51,18 @@ impl Display for WordFault {
             WordFault::Name(fault) => write!(f, "{fault}"),
             WordFault::Type => f.write_str(words(17)),
             WordFault::Caller => f.write_str(
-                "a caller is 1 to 64 of the octets a to z, A to Z, 0 to 9, -, _ and .",
+                "a caller is 1 to 64 of the octets a to z, A to Z, 0 to 9, -, _ and ., and nobody is none of several",
             ),
             WordFault::Action => {
                 f.write_str("the action is not one of list, check, add, delete and delegate")
             }
-            WordFault::Order => f.write_str("the words are in no order that is read"),
+            WordFault::Rule => f.write_str(
+                "a rule is 1 to 64 of the octets a to z, A to Z, 0 to 9, -, _ and .",
+            ),
+            WordFault::Question => f.write_str("a question is NAME or NAME TYPE, without quotes"),
+            WordFault::Expectation => f.write_str(
+                "the line is neither granted or denied CALLER NAME TYPE ACTION [by RULE] nor only CALLER.. may ACTION TYPE at, within or below NAME",
+            ),
         }
     }
 }

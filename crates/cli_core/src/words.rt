@@ -60,7 +60,8 @@ fn mistake_in(matches: &ArgMatches<'_>) -> &'static str {
     match matches.subcommand() {
         Some(("diff", _)) =>
             "only one of OLD and NEW can be -, which is standard input, and only one kind of --guard is given",
-        Some(("answer", _)) => "only one of FILE and NAME can be -, which is standard input; questions there have their types",
+        Some(("answer", _)) =>
+            "only one of FILE and NAME can be -, which is standard input; questions there have their types",
         Some(("request", _)) => "one of --id and --split is needed, and only one of them",
         _ => "the words name no job: see the example of zoneoffice COMMAND --help",
     }

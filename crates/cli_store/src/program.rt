@@ -19,8 +19,8 @@ use cli_core::{
     WordsFault, ZoneFiles, read_words, write_text,
 };
 use cli_text::{
-    AnswerFault, Apply, DiffFault, Findings, Request, Split, Subject, Task, do_answers,
-    do_changes, do_check, do_diff, do_plan,
+    AnswerFault, Apply, DiffFault, Findings, Request, Split, Subject, Task, do_answers, do_changes,
+    do_check, do_diff, do_plan,
 };
 use dns_master::{Sink, Source};
 use sqlite::{Alter, Connection};

@@ -3,6 +3,7 @@ pub mod LineLemmas
 pub mod PartLemmas
 pub mod PlanLemmas
 pub mod QuestionLemmas
+pub mod ExpectLemmas
 pub mod ReadAgainLemmas
 pub mod ExplainLemmas
 pub mod GuardLaws

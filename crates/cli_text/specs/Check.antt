@@ -1,20 +1,17 @@
 -- What `check policy` prints: the rules of a policy that never decide, each with the rules that take its questions. What `check isolation`
--- prints: that the policy isolates a caller, or what keeps it from that. And which inputs these, `check rights` and `check zone` read.
-use Rattle.std.specs.Prelude.{◌≡◌, ◌⊎◌, ◌↔◌, ℕ, ◌<◌, List, [], ◌∷◌, ◌++◌, length, map, codes, decimal, Option, Some, None, option_map, Result, Ok, Err, IfSome, slice_get}
+-- prints: that the policy isolates a caller, or what keeps it from that. And which inputs these and the other checks read.
+use Rattle.std.specs.Prelude.{◌≡◌, ◌⊎◌, ◌↔◌, ℕ, ◌<◌, List, [], ◌∷◌, ◌++◌, length, map, codes, decimal, Option, Some, None, option_map, Result, Ok, Err, IfSome}
 use Rattle.std.specs.List.{All, Contains, flat_map}
 use Rattle.std.specs.List.Sorted.{IsStrictlyIncreasing}
 use Rattle.std.specs.Io.KnownBytes.{Appends}
 use Rattle.dns_names.specs.Reading.{absolute_name}
 use Rattle.dns_names.specs.Spelling.{name_text}
-use Rattle.dns_data.specs.Types.{type_text}
 use Rattle.grant_policy.specs.declared.rule.Rule.{Rule}
 use Rattle.grant_policy.specs.Documents.{document_of}
 use Rattle.grant_policy.specs.Reading.{identifier_of, policy_of}
-use Rattle.grant_policy.specs.Words.{action_text}
 use Rattle.grant_policy.specs.Isolated.{IsIsolated}
 use Rattle.policy_tools.specs.declared.exposure.Exposure.{Exposure}
 use Rattle.policy_tools.specs.declared.exposure.Exposure.TheVariants.{Soa, Shared}
-use Rattle.policy_tools.specs.declared.exposure.Right.{Right}
 use Rattle.policy_tools.specs.Exposures.{IsExposed}
 use Rattle.policy_tools.specs.declared.idle.IdleRule.{IdleRule}
 use Rattle.policy_tools.specs.Idle.{IsIdle, AreTakers}
@@ -38,6 +35,8 @@ use Rattle.cli_text.specs.Canon.{zone_of_file}
 use Rattle.cli_text.specs.ZoneCheck.{filter_of, IsZoneReport}
 use Rattle.cli_text.specs.RightsCheck.{IsRightsText}
 use Rattle.cli_text.specs.PolicyChanges.{IsChangesReport}
+use Rattle.cli_text.specs.Expect.{expectations_read, IsExpectReport}
+use Rattle.cli_text.specs.ReportLines.{id_text, right_text, other_text}
 use Rattle.cli_core.specs.LineFaults.{◌>>=◌, or_refused, limited, of_names, of_policies, Makes, ReachesInput}
 use Rattle.cli_core.specs.Refusals.{refused_line}
 use Rattle.cli_core.specs.Replies.{line_of}
@@ -57,14 +56,16 @@ name_if (Some word) = of_names (absolute_name word) >>= λ name. Ok (Some name)
 abbrev pub asked_in : Subject → Result Asked Refusal
 asked_in subject.Rules = Ok asked.Rules
 asked_in (subject.Changes old) = Ok (asked.Changes old)
+asked_in (subject.Expected policy) = Ok (asked.Expected policy)
 asked_in (subject.Isolation word) = or_refused (identifier_of word.now) NoCaller >>= λ caller. Ok (asked.Isolation caller)
 asked_in (subject.Rights word) = name_if (option_map (λ w. w.now) word) >>= λ name. Ok (asked.Rights name)
 asked_in (subject.Zone origin rules) = filter_of rules >>= λ filter. of_names (absolute_name origin.now) >>= λ name. Ok (asked.Zone name filter)
 
--- what that is in an input: a policy, or the file of a zone
+-- what that is in an input: a policy, expectations, or the file of a zone
 abbrev pub checking_of : Asked → List ℕ → Result Checking Refusal
 checking_of asked.Rules text = rules_in text >>= λ rules. Ok (checking.Rules rules)
 checking_of (asked.Changes old) text = rules_in text >>= λ rules. Ok (checking.Changes old rules)
+checking_of (asked.Expected policy) text = expectations_read text >>= λ rows. Ok (checking.Expected policy rows)
 checking_of (asked.Isolation caller) text = rules_in text >>= λ rules. Ok (checking.Isolation caller rules)
 checking_of (asked.Rights name) text = rules_in text >>= λ rules. Ok (checking.Rights name rules)
 checking_of (asked.Zone origin filter) text = zone_of_file origin text >>= λ zone. Ok (checking.Zone zone filter)
@@ -80,14 +81,6 @@ pub record AreIdle (rules : List Rule) (idle : List IdleRule) : Type 0 where
   pub each : (i : ℕ) → Contains (map (λ r. r.rule) idle) i ↔ ((i < length rules) × IsIdle rules i)
   pub takers : All (λ r. AreTakers rules r.rule r.takers.items) idle
   pub ordered : IsStrictlyIncreasing (map (λ r. r.rule) idle)
-
-abbrev pub id_of : Option Rule → List ℕ
-id_of None = []
-id_of (Some rule) = rule.id
-
--- a space, and the id of the rule of a place
-abbrev pub id_text : List Rule → ℕ → List ℕ
-id_text rules place = 32 ∷ id_of (slice_get rules place)
 
 -- the place of a rule, from 0, and its id
 abbrev pub idle_head : List Rule → ℕ → List ℕ
@@ -109,15 +102,6 @@ abbrev pub IsReport : List Rule → Findings → List ℕ → Type 0
 IsReport rules findings text = (idle : List IdleRule) × AreIdle rules idle × (text ≡ idle_text rules idle) × (findings ≡ findings_of idle)
 
 -- ---- the report on isolation
-
--- a type, an action, and the id of the rule that grants it, with a space before each
-abbrev pub right_text : List Rule → Right → List ℕ
-right_text rules right = (32 ∷ type_text right.record_type ++ 32 ∷ action_text right.action) ++ id_text rules right.rule
-
--- another caller, and `*` for any that no rule names
-abbrev pub other_text : Option (List ℕ) → List ℕ
-other_text None = codes " *"
-other_text (Some caller) = 32 ∷ caller
 
 abbrev pub exposure_line : List Rule → Exposure → List ℕ
 exposure_line rules (Soa name right) = (codes "soa " ++ name_text name) ++ right_text rules right
@@ -144,6 +128,7 @@ IsIsolationReport rules caller findings text =
 abbrev pub IsReportOn : Checking → Findings → List ℕ → Type 0
 IsReportOn (checking.Rules rules) findings text = IsReport rules findings text
 IsReportOn (checking.Changes old rules) findings text = IsChangesReport old.now rules findings text
+IsReportOn (checking.Expected policy rows) findings text = IsExpectReport policy.now rows findings text
 IsReportOn (checking.Isolation caller rules) findings text = IsIsolationReport rules caller findings text
 IsReportOn (checking.Rights name rules) findings text = IsRightsText name rules text × (findings ≡ Absent)
 IsReportOn (checking.Zone zone filter) findings text = IsZoneReport zone filter findings text

@@ -9,6 +9,8 @@ pub mod QuestionViews
 pub mod Answer
 pub mod ZoneCheck
 pub mod RightsCheck
+pub mod ReportLines
+pub mod Expect
 pub mod PolicyChanges
 pub mod Check
 pub mod PolicyChangeAnswers

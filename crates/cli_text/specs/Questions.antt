@@ -109,12 +109,12 @@ abbrev pub typed_question : ℕ → List (List ℕ) → List ItemText → Result
 typed_question line name [] = Ok (question name address (Kept types.A))
 typed_question line name (kind ∷ []) =
     unquoted line word.Type kind >>= λ raw. or_refused (query_type_of raw) (Line line word.Type) >>= λ t. Ok (question name raw t)
-typed_question line name items = Err (Line line word.Order)
+typed_question line name items = Err (Line line word.Question)
 
 -- the question of the items of a line: a name, and a type or none
 abbrev pub question_of : ℕ → List ItemText → Result QuestionOf Refusal
-question_of line [] = Err (Line line word.Order)
-question_of line (owner ∷ kinds) = unquoted line word.Order owner >>= λ raw. name_on line (absolute_name raw) >>= λ name. typed_question line name kinds
+question_of line [] = Err (Line line word.Question)
+question_of line (owner ∷ kinds) = unquoted line word.Question owner >>= λ raw. name_on line (absolute_name raw) >>= λ name. typed_question line name kinds
 
 -- the questions of lines, or the refusal of the first that is none
 abbrev pub questions_in : List EntryLine → Result (List QuestionOf) Refusal

@@ -13,9 +13,7 @@ use crate::answer_fault::AnswerFault;
 use crate::canon::{read_name, zone_of_file};
 use crate::questions::{Inquiry, Question, inquiry_in, inquiry_of};
 use crate::task::Task;
-use cli_core::{
-    Answer, Input, JobFault, LineFault, read_input, write_refusal, write_text,
-};
+use cli_core::{Answer, Input, JobFault, LineFault, read_input, write_refusal, write_text};
 use dns_data::Record;
 use dns_master::Sink;
 use std::alloc::{AllocError, Global};
@@ -104,11 +102,7 @@ fn answers_behind(alloc: Global, inquiry: Inquiry, text: Vec<u8>) -> Result<Vec<
 }
 
 /// What is printed of an inquiry about the zone that a reader gives.
-fn answered<R: Input>(
-    alloc: Global,
-    inquiry: Inquiry,
-    reader: &mut R,
-) -> Result<Vec<u8>, LineFault>
+fn answered<R: Input>(alloc: Global, inquiry: Inquiry, reader: &mut R) -> Result<Vec<u8>, LineFault>
     ensures { GivesOf (λ text. text.items) (R.left reader.old) (answers_of (inquiry_view inquiry)) result (R.fine reader.old reader.new)
         (R.failed reader.old reader.new) }
 {
@@ -137,11 +131,7 @@ impl Task for Inquiry {
 }
 
 /// What is printed of the question of words about the zone that a reader gives.
-fn answer<R: Input>(
-    alloc: Global,
-    words: Answer<'_>,
-    reader: &mut R,
-) -> Result<Vec<u8>, LineFault>
+fn answer<R: Input>(alloc: Global, words: Answer<'_>, reader: &mut R) -> Result<Vec<u8>, LineFault>
     ensures { GivesOf (λ text. text.items) (R.left reader.old) (answer_text words.origin.now words.name.now (option_map (λ t. t.now) words.asked)) result
         (R.fine reader.old reader.new) (R.failed reader.old reader.new) }
 {

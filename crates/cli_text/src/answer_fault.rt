@@ -18,7 +18,8 @@ impl Display for AnswerFault {
         match *self {
             AnswerFault::Questions(fault) => {
                 if let JobFault::Reported(
-                    LineFault::ReadFailed | LineFault::Refused(Refusal::TooLarge | Refusal::Master(_)),
+                    LineFault::ReadFailed
+                    | LineFault::Refused(Refusal::TooLarge | Refusal::Master(_)),
                 ) = fault
                 {
                     f.write_str("the questions: ")?;

@@ -2,12 +2,14 @@
 //! do what. And what is wrong in a zone.
 
 ghost use Rattle.std.specs.Prelude.{◌≡◌, ◌++◌, ◌<◌, ℕ, IfOk, OnOk, decimal, option_map};
+ghost use Rattle.cli_text.specs.ReportLines.{id_text, right_text, other_text};
 ghost use Rattle.cli_text.specs.RightsCheck.{IsRightsText};
 ghost use Rattle.dns_names.specs.Spelling.{name_text};
 ghost use Rattle.cli_core.specs.LineFaults.{Gives, GivesOf};
-ghost use Rattle.cli_text.specs.Check.{rules_in, name_if, asked_in, checking_of, checked_read, id_text, idle_head, idle_line, idle_text, findings_of, IsReport, right_text, other_text, exposure_line, isolation_line, exposures_of, IsIsolationReport, IsReportOn, Reports, Checked};
+ghost use Rattle.cli_text.specs.Check.{rules_in, name_if, asked_in, checking_of, checked_read, idle_head, idle_line, idle_text, findings_of, IsReport, exposure_line, isolation_line, exposures_of, IsIsolationReport, IsReportOn, Reports, Checked};
 
 use crate::canon::{read_name, zone_of_file};
+use crate::expect::{Expectations, expect_report, expectations_in};
 use crate::policy_changes::changes_report;
 use crate::rights::read_caller;
 use crate::rights_check::rights_list;
@@ -20,13 +22,15 @@ use policy_tools::{Exposure, IdleRule, Right, idle_rules, isolation};
 use std::alloc::{AllocError, Global};
 use zone_core::Zone;
 
-/// What is checked.
+/// What an input is checked for.
 #[derive(Clone, Copy)]
 pub enum Subject<'a> {
     /// Which of its rules never decide.
     Rules,
     /// What it changes against this policy.
     Changes(&'a Policy),
+    /// What it expects of this policy that is not so.
+    Expected(&'a Policy),
     /// Whether the caller that this word names is isolated.
     Isolation(&'a str),
     /// Who may do what, at the name that this word is, or at all names.
@@ -49,6 +53,7 @@ pub enum Findings {
 enum Asked<'a> {
     Rules,
     Changes(&'a Policy),
+    Expected(&'a Policy),
     Isolation(Identifier),
     Rights(Option<Name>),
     Zone(Name, RuleFilter),
@@ -59,6 +64,7 @@ enum Asked<'a> {
 enum Checking<'a> {
     Rules(Policy),
     Changes(&'a Policy, Policy),
+    Expected(&'a Policy, Expectations),
     Isolation(Identifier, Policy),
     Rights(Option<Name>, Policy),
     Zone(Zone, RuleFilter),
@@ -100,6 +106,7 @@ fn asked_in<'a>(alloc: Global, subject: Subject<'a>) -> Result<Asked<'a>, LineFa
     match subject {
         Subject::Rules => Ok(Asked::Rules),
         Subject::Changes(old) => Ok(Asked::Changes(old)),
+        Subject::Expected(policy) => Ok(Asked::Expected(policy)),
         Subject::Isolation(word) => Ok(Asked::Isolation(read_caller(alloc, word)?)),
         Subject::Rights(word) => Ok(Asked::Rights(name_if(alloc, word)?)),
         Subject::Zone(origin, rules) => zone_asked(alloc, origin, rules),
@@ -124,6 +131,7 @@ fn checking_of<'a>(
     match wanted {
         Asked::Rules => Ok(Checking::Rules(policy_in(alloc, text)?)),
         Asked::Changes(old) => Ok(Checking::Changes(old, policy_in(alloc, text)?)),
+        Asked::Expected(policy) => Ok(Checking::Expected(policy, expectations_in(alloc, text)?)),
         Asked::Isolation(caller) => Ok(Checking::Isolation(caller, policy_in(alloc, text)?)),
         Asked::Rights(name) => Ok(Checking::Rights(name, policy_in(alloc, text)?)),
         Asked::Zone(origin, filter) => {
@@ -212,7 +220,7 @@ fn rules_report(alloc: Global, policy: &Policy) -> Result<Report, AllocError>
 }
 
 /// Appends a type, an action and the id of the rule that grants it, with a space before each.
-fn push_right(rules: &[Rule], right: Right, text: &mut Vec<u8>) -> Result<(), AllocError>
+pub(crate) fn push_right(rules: &[Rule], right: Right, text: &mut Vec<u8>) -> Result<(), AllocError>
     ensures { OnOk result (text.new.items ≡ text.old.items ++ right_text rules.now right) }
 {
     text.push(b' ')?;
@@ -223,7 +231,7 @@ fn push_right(rules: &[Rule], right: Right, text: &mut Vec<u8>) -> Result<(), Al
 }
 
 /// Appends a space, and another caller, or `*` for any that no rule names.
-fn push_other(other: &Option<Identifier>, text: &mut Vec<u8>) -> Result<(), AllocError>
+pub(crate) fn push_other(other: &Option<Identifier>, text: &mut Vec<u8>) -> Result<(), AllocError>
     ensures { OnOk result (text.new.items ≡ text.old.items ++ other_text other.now) }
 {
     text.push(b' ')?;
@@ -324,6 +332,7 @@ fn report_on(alloc: Global, checking: &Checking<'_>) -> Result<Report, AllocErro
     match checking {
         Checking::Rules(policy) => rules_report(alloc, policy),
         Checking::Changes(old, new) => changes_report(alloc, old, new),
+        Checking::Expected(policy, expected) => expect_report(alloc, policy, expected),
         Checking::Isolation(caller, policy) => isolation_report(alloc, policy, caller),
         Checking::Rights(name, policy) => rights_report(alloc, policy, name),
         Checking::Zone(zone, rules) => zone_report(alloc, zone, *rules),
@@ -345,8 +354,10 @@ fn report_read<R: Input>(
 /// Checks the policy that an input is. Of the rules, what is written is a line for each that never decides, in order: `idle`, its place
 /// from 0, its id, and the ids of the rules that take its questions. Of the isolation of a caller it is `isolated`, or what keeps the
 /// caller from that: `soa`, a name, and a type, an action and a rule by which the caller may see an SOA there; or `shared`, a name, what
-/// the caller may do there, another caller or `*` for any that no rule names, and what that one may do. Otherwise one line tells the
-/// refusal that comes first: of the caller, that the policy is too large, or what is wrong in it.
+/// the caller may do there, another caller or `*` for any that no rule names, and what that one may do. Of expectations it is a line for
+/// each that is not so: `differs`, its line, and what is decided; or `exceeds`, its line, and a caller, a name, a type, an action and a
+/// rule that grants beyond its limit. Otherwise one line tells the refusal that comes first: of the caller, that the input is too large,
+/// or what is wrong in it.
 pub fn do_check<R: Input, W: Sink>(
     alloc: Global,
     subject: Subject<'_>,

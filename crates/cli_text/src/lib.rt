@@ -10,6 +10,7 @@ mod changes_fault;
 mod check;
 mod diff;
 mod diff_fault;
+mod expect;
 mod explain;
 mod filling;
 mod guard;

@@ -114,7 +114,7 @@ fn typed_question(
             let asked = type_or(raw, Refusal::Line { line, fault })?;
             Ok(question(alloc, name, raw, asked)?)
         }
-        _ => Err(on_line(line, WordFault::Order)),
+        _ => Err(on_line(line, WordFault::Question)),
     }
 }
 
@@ -123,9 +123,9 @@ fn question_of(alloc: Global, line: usize, items: &[Item]) -> Result<Question, L
     ensures { Gives question_view result (question_of line (map item_of items.now)) }
 {
     match items {
-        [] => Err(on_line(line, WordFault::Order)),
+        [] => Err(on_line(line, WordFault::Question)),
         [owner, kinds @ ..] => {
-            let raw = unquoted(line, WordFault::Order, *owner)?;
+            let raw = unquoted(line, WordFault::Question, *owner)?;
             let name = name_on(alloc, line, raw)?;
             typed_question(alloc, line, name, kinds)
         }

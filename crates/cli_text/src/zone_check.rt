@@ -114,7 +114,7 @@ fn findings_text(
 }
 
 /// Whether a text tells something.
-fn told(text: &[u8]) -> Findings
+pub(crate) fn told(text: &[u8]) -> Findings
     ensures { result ≡ told text.now }
 {
     match text {

@@ -91,7 +91,18 @@ fn push_text_job(job: &TextJob<'_>, answer: &mut Vec<u8>) -> Result<(), AllocErr
         TextJob::Plan(words) => push_plan(words.policy, words.caller, answer),
         TextJob::Check(words) => push_check(words, answer),
         TextJob::Answer(words) => {
-            push_all(&["answer (", words.origin, ") (", words.file, ") (", words.name, ")"], answer)?;
+            push_all(
+                &[
+                    "answer (",
+                    words.origin,
+                    ") (",
+                    words.file,
+                    ") (",
+                    words.name,
+                    ")",
+                ],
+                answer,
+            )?;
             push_if_given(words.asked, answer)
         }
         TextJob::Reverse(words) => {

@@ -1,6 +1,7 @@
 use Rattle.std.proofs.Common.{◌≡◌, ◌++◌, take}
 use Rattle.std.specs.List.{flat_map}
-use Rattle.cli_text.specs.Check.{idle_head, id_text}
+use Rattle.cli_text.specs.Check.{idle_head}
+use Rattle.cli_text.specs.ReportLines.{id_text}
 use Rattle.cli_text.proofs.check.idle_line.Given as goal
 
 -- the ids of the takers so far

@@ -1,0 +1,150 @@
+//! What is expected of a policy and is not so, as text.
+
+ghost use Rattle.std.specs.Prelude.{◌≡◌, ◌++◌, ℕ, List, [], IfOk, OnOk};
+ghost use Rattle.policy_tools.specs.declared.expectation_lines.ExpectationLine.{ExpectationLine as RowOf};
+ghost use Rattle.cli_core.specs.LineFaults.{Gives, GivesOf};
+ghost use Rattle.cli_core.specs.declared.word_fault.WordFault.{WordFault as FaultOf};
+ghost use Rattle.cli_text.specs.Expect.{word_fault, of_expectations, expectations_read, differs_line, exceeds_line, example_line, IsRowText, AreRowTexts, IsExpectReport};
+
+use crate::check::{Findings, Report, push_other, push_right};
+use crate::rights::decision_text;
+use crate::zone_check::told;
+use cli_core::{LineFault, Refusal, WordFault};
+use grant_policy::{Decision, Policy, Rule};
+use policy_tools::{
+    Counterexample, Excess, ExpectationFault, ExpectationLine, ExpectationsFault,
+    expectation_fails, read_expectations,
+};
+use std::alloc::{AllocError, Global};
+use std::marker::Model;
+
+/// What is expected, line by line. A contract sees the list of it.
+#[derive(Drop)]
+pub(crate) struct Expectations {
+    rows: Vec<ExpectationLine>,
+}
+
+impl Model for Expectations {
+    ghost Value = { List RowOf };
+
+    ghost view = { λ e. e.rows.items };
+}
+
+/// What is wrong with the words of a line; `None` where memory ran out.
+fn word_fault(fault: ExpectationFault) -> Option<WordFault>
+    ensures { result ≡ word_fault fault }
+{
+    match fault {
+        ExpectationFault::Form => Some(WordFault::Expectation),
+        ExpectationFault::NoCaller => Some(WordFault::Caller),
+        ExpectationFault::Name(fault) => Some(WordFault::Name(fault)),
+        ExpectationFault::TypeNotKept => Some(WordFault::Type),
+        ExpectationFault::NoAction => Some(WordFault::Action),
+        ExpectationFault::NoRule => Some(WordFault::Rule),
+        ExpectationFault::NoMemory => None,
+    }
+}
+
+/// The refusal of a text that has no expectations.
+fn of_expectations(fault: ExpectationsFault) -> LineFault
+    ensures { result ≡ of_expectations fault }
+{
+    let line = fault.line;
+    match word_fault(fault.fault) {
+        Some(fault) => LineFault::Refused(Refusal::Line { line, fault }),
+        None => LineFault::NoMemory,
+    }
+}
+
+/// The expectations of a text, whose octets are given back.
+pub(crate) fn expectations_in(alloc: Global, text: Vec<u8>) -> Result<Expectations, LineFault>
+    ensures { Gives (λ rows. rows) result (expectations_read text.items) }
+{
+    match read_expectations(alloc, &text) {
+        Ok(rows) => Ok(Expectations { rows }),
+        Err(fault) => Err(of_expectations(fault)),
+    }
+}
+
+/// The line that tells what is decided in place of what a line expects.
+fn differs_line(alloc: Global, line: usize, decision: Decision<'_>) -> Result<Vec<u8>, AllocError>
+    ensures { IfOk result (λ text. text.items ≡ differs_line line decision.entry) }
+{
+    let head = format!(in alloc; "differs {line} ")?;
+    let mut text = Vec::from_slice(alloc, head.as_bytes())?;
+    text.extend_from_slice(&decision_text(alloc, decision)?)?;
+    Ok(text)
+}
+
+/// The line that tells what is granted beyond the limit of a line.
+fn exceeds_line(
+    alloc: Global,
+    rules: &[Rule],
+    line: usize,
+    excess: &Excess,
+) -> Result<Vec<u8>, AllocError>
+    ensures { IfOk result (λ text. text.items ≡ exceeds_line rules.now line excess.now) }
+{
+    let head = format!(in alloc; "exceeds {line}")?;
+    let mut text = Vec::from_slice(alloc, head.as_bytes())?;
+    push_other(&excess.caller, &mut text)?;
+    let name = format!(in alloc; " {}", excess.name)?;
+    text.extend_from_slice(name.as_bytes())?;
+    push_right(rules, excess.right, &mut text)?;
+    text.push(b'\n')?;
+    Ok(text)
+}
+
+/// The line that tells why a policy is not as a line expects.
+fn example_line(
+    alloc: Global,
+    rules: &[Rule],
+    line: usize,
+    example: &Counterexample<'_>,
+) -> Result<Vec<u8>, AllocError>
+    ensures { IfOk result (λ text. text.items ≡ example_line rules.now line example.now) }
+{
+    match example {
+        Counterexample::Decided(decision) => differs_line(alloc, line, *decision),
+        Counterexample::Granted(excess) => exceeds_line(alloc, rules, line, excess),
+    }
+}
+
+/// What is told of a line: nothing, if the policy is as it expects.
+fn row_text(alloc: Global, policy: &Policy, row: &ExpectationLine) -> Result<Vec<u8>, AllocError>
+    ensures { IfOk result (λ text. IsRowText policy.now row.now text.items) }
+{
+    match expectation_fails(alloc, policy, &row.expectation)? {
+        None => Ok(Vec::new(alloc)),
+        Some(example) => example_line(alloc, policy.rules(), row.line, &example),
+    }
+}
+
+/// What is told of lines.
+fn rows_text(
+    alloc: Global,
+    policy: &Policy,
+    rows: &[ExpectationLine],
+) -> Result<Vec<u8>, AllocError>
+    ensures { IfOk result (λ text. AreRowTexts policy.now rows.now text.items) }
+{
+    let mut text = Vec::new(alloc);
+    for row in rows {
+        let here = row_text(alloc, policy, row)?;
+        text.extend_from_slice(&here)?;
+    }
+    Ok(text)
+}
+
+/// The report on what is expected of a policy. The only error is out of memory.
+pub(crate) fn expect_report(
+    alloc: Global,
+    policy: &Policy,
+    expected: &Expectations,
+) -> Result<Report, AllocError>
+    ensures { IfOk result (λ report. IsExpectReport policy.now expected.now report.findings report.text.items) }
+{
+    let text = rows_text(alloc, policy, &expected.rows)?;
+    let findings = told(&text);
+    Ok(Report { findings, text })
+}
