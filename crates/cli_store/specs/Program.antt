@@ -26,14 +26,13 @@ use Rattle.cli_core.specs.declared.line_fault.JobFault.{JobFault}
 use Rattle.cli_text.specs.declared.check.Findings.{Findings}
 use Rattle.cli_text.specs.declared.check.Findings.TheVariants.{Absent, Present}
 use Rattle.cli_text.specs.declared.check.Subject.{Subject}
-use Rattle.cli_text.specs.declared.check.Subject.TheVariants.{Rules, Isolation, Rights, Zone}
+use Rattle.cli_text.specs.declared.check.Subject.TheVariants.{Rules, Isolation, Rights, Reverse, Zone}
 use Rattle.cli_text.specs.declared.changes_fault.ChangesFault.{ChangesFault}
 use Rattle.cli_text.specs.declared.diff_fault.DiffFault.{DiffFault}
 use Rattle.cli_core.specs.Inputs.{InputOf}
 use Rattle.cli_core.specs.declared.commands.answer.Answer.{Answer}
 use Rattle.cli_text.specs.declared.answer_fault.AnswerFault.{AnswerFault}
 use Rattle.cli_text.specs.Answer.{answer_text, IsInquired}
-use Rattle.cli_text.specs.Reverse.{reverse_text}
 use Rattle.cli_text.specs.Apply.{apply_text}
 use Rattle.cli_text.specs.Canon.{canon_text}
 use Rattle.cli_text.specs.Request.{request_text}
@@ -114,6 +113,12 @@ abbrev pub EndsCheck : Subject → Option (List ℕ) → Type 0 → Type 0 → W
 EndsCheck subject left fine failed o status = (outcome : Result Findings JobFault)
     × Checked subject left o.old o.new outcome fine failed o.before o.after × (status ≡ check_status_of outcome)
 
+-- the same of the input that a path names: standard input, if it is `-`, or a file
+abbrev pub EndsCheckOf : {H : Type 0} → Around H → Reading → Subject → List ℕ → Writing → ℕ → Type 0
+EndsCheckOf a i subject path o status =
+    ((path ≢ codes "-") × IsUnread i × EndsCheck subject (a.file path) ⊤ (a.unreadable path) o status)
+    ⊎ ((path ≡ codes "-") × EndsCheck subject i.left (i.after ≡ i.before) (i.before < i.after) o status)
+
 -- The policy of the first path is read, and the other checked against it. At 0 both were read, and the other changes nothing.
 abbrev pub EndsChanges : {H : Type 0} → Around H → List ℕ → List ℕ → Writing → ℕ → Type 0
 EndsChanges a against policy o status = (outcome : Result Findings ChangesFault)
@@ -172,7 +177,7 @@ TextJobEnds a i o (text_job.Plan w) status =
     Ends (λ outcome. IsPlanned w.caller.now (named a w.policy.now) (standard i) o.old o.new outcome o.before o.after) status
 TextJobEnds a i o (text_job.Check w) status = CheckEnds a i o w status
 TextJobEnds a i o (text_job.Answer w) status = AnswerEnds a i w o status
-TextJobEnds a i o (text_job.Reverse w) status = EndsTaskOf a i w.file.now (reverse_text w.origin.now) o status
+TextJobEnds a i o (text_job.Reverse w) status = EndsCheckOf a i (Reverse w.origin) w.file.now o status
 TextJobEnds a i o (text_job.Explain w) status =
     IsUnread i × EndsTask ended.left ended.fine ended.failed (explain_text (option_map (λ n. n.now) w.number) w.form) o status
 

@@ -5,7 +5,7 @@ ghost use Rattle.std.specs.Process.{exit_status};
 ghost use Rattle.sqlite.specs.Held.{state};
 ghost use Rattle.cli_text.specs.Plan.{IsPlanned};
 ghost use Rattle.cli_store.specs.Stores.{stores_of};
-ghost use Rattle.cli_store.specs.Program.{Ends, EndsTask, EndsCheck, EndsChanges, EndsTaskOf, IsInquiredOf, AnswerEnds, DiffersBy, named, standard, requested, CheckEnds, TextJobEnds, StoreJobEnds, JobEnds, EndsFault, WordsEnd, IsToldWhole, status_of, check_status_of};
+ghost use Rattle.cli_store.specs.Program.{Ends, EndsTask, EndsCheck, EndsChanges, EndsCheckOf, EndsExpected, EndsTaskOf, IsInquiredOf, AnswerEnds, DiffersBy, named, standard, requested, CheckEnds, TextJobEnds, StoreJobEnds, JobEnds, EndsFault, WordsEnd, IsToldWhole, status_of, check_status_of};
 
 use crate::files::StoreFiles;
 use crate::migration::migrate;
@@ -92,7 +92,7 @@ fn check<M: Surroundings, I: Input, W: Sink>(
     check_status(around, do_check(around.alloc(), subject, input, output))
 }
 
-/// Checks the file of a path, which is a policy.
+/// Checks the file of a path.
 fn check_file<M: Surroundings, W: Sink>(
     around: &M,
     subject: Subject<'_>,
@@ -132,6 +132,39 @@ fn changes<M: Surroundings, W: Sink>(
     )
 }
 
+/// Writes what is expected of the policy of a path and is not so, by the expectations of another path, or of standard input.
+fn expect<M: Surroundings, R: Source, W: Sink>(
+    around: &M,
+    policy: &str,
+    file: Option<&str>,
+    input: &mut R,
+    output: &mut W,
+) -> ExitCode
+    ensures { EndsExpected (M.around around.now)
+        (record { left = R.remaining input.old; rest = R.remaining input.new; before = R.failures input.old; after = R.failures input.new }) policy.now
+        (option_map (λ f. f.now) file.entry)
+        (record { old = W.contents output.old; new = W.contents output.new; before = W.failures output.old; after = W.failures output.new })
+        (exit_status result) }
+{
+    let mut policy = NamedFile {
+        around,
+        path: policy,
+    };
+    match file {
+        None => check_status(
+            around,
+            do_expect(around.alloc(), &mut policy, input, output),
+        ),
+        Some(path) => {
+            let mut file = NamedFile { around, path };
+            check_status(
+                around,
+                do_expect(around.alloc(), &mut policy, &mut file, output),
+            )
+        }
+    }
+}
+
 /// Checks what the words of `check` name.
 fn check_job<M: Surroundings, R: Source, W: Sink>(
     around: &M,
@@ -153,6 +186,7 @@ fn check_job<M: Surroundings, R: Source, W: Sink>(
             policy,
             against: Some(against),
         } => changes(around, against, policy, output),
+        Check::Expect { policy, file } => expect(around, policy, file, input, output),
         Check::Isolation { policy, caller } => {
             check_file(around, Subject::Isolation(caller), policy, output)
         }
@@ -238,6 +272,25 @@ fn do_task_of<M: Surroundings, T: Task, R: Source, W: Sink>(
     }
     let mut file = NamedFile { around, path };
     do_task(around, task, &mut file, output)
+}
+
+/// Checks the input that a path names: standard input, if it is `-`, or a file.
+fn check_of<M: Surroundings, R: Source, W: Sink>(
+    around: &M,
+    subject: Subject<'_>,
+    path: &str,
+    input: &mut R,
+    output: &mut W,
+) -> ExitCode
+    ensures { EndsCheckOf (M.around around.now)
+        (record { left = R.remaining input.old; rest = R.remaining input.new; before = R.failures input.old; after = R.failures input.new }) subject.entry path.now
+        (record { old = W.contents output.old; new = W.contents output.new; before = W.failures output.old; after = W.failures output.new })
+        (exit_status result) }
+{
+    if is_standard(path) {
+        return check(around, subject, input, output);
+    }
+    check_file(around, subject, path, output)
 }
 
 /// Writes what a server answers to the questions of standard input, from the zone of a path.
@@ -332,7 +385,10 @@ pub fn do_text_job<M: Surroundings, R: Source, W: Sink>(
         TextJob::Plan(words) => plan(around, words.policy, words.caller, input, output),
         TextJob::Check(words) => check_job(around, words, input, output),
         TextJob::Answer(words) => answer(around, words, input, output),
-        TextJob::Reverse(words) => do_task_of(around, words, words.file, input, output),
+        TextJob::Reverse(words) => {
+            let subject = Subject::Reverse(words.origin);
+            check_of(around, subject, words.file, input, output)
+        }
         TextJob::Explain(words) => do_task(around, words, &mut Ended, output),
     }
 }

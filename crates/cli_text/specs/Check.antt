@@ -32,6 +32,8 @@ use Rattle.cli_core.specs.declared.line_fault.JobFault.{JobFault}
 use Rattle.cli_core.specs.declared.line_fault.JobFault.TheVariants.{Reported, WriteFailed}
 use Rattle.cli_core.specs.Device.{AppendsFront}
 use Rattle.cli_text.specs.Canon.{zone_of_file}
+use Rattle.cli_text.specs.Apply.{records_of}
+use Rattle.cli_text.specs.Reverse.{IsReverseReport}
 use Rattle.cli_text.specs.ZoneCheck.{filter_of, IsZoneReport}
 use Rattle.cli_text.specs.RightsCheck.{IsRightsText}
 use Rattle.cli_text.specs.PolicyChanges.{IsChangesReport}
@@ -59,15 +61,17 @@ asked_in (subject.Changes old) = Ok (asked.Changes old)
 asked_in (subject.Expected policy) = Ok (asked.Expected policy)
 asked_in (subject.Isolation word) = or_refused (identifier_of word.now) NoCaller >>= λ caller. Ok (asked.Isolation caller)
 asked_in (subject.Rights word) = name_if (option_map (λ w. w.now) word) >>= λ name. Ok (asked.Rights name)
+asked_in (subject.Reverse word) = of_names (absolute_name word.now) >>= λ origin. Ok (asked.Reverse origin)
 asked_in (subject.Zone origin rules) = filter_of rules >>= λ filter. of_names (absolute_name origin.now) >>= λ name. Ok (asked.Zone name filter)
 
--- what that is in an input: a policy, expectations, or the file of a zone
+-- what that is in an input: a policy, expectations, or the files of zones
 abbrev pub checking_of : Asked → List ℕ → Result Checking Refusal
 checking_of asked.Rules text = rules_in text >>= λ rules. Ok (checking.Rules rules)
 checking_of (asked.Changes old) text = rules_in text >>= λ rules. Ok (checking.Changes old rules)
 checking_of (asked.Expected policy) text = expectations_read text >>= λ rows. Ok (checking.Expected policy rows)
 checking_of (asked.Isolation caller) text = rules_in text >>= λ rules. Ok (checking.Isolation caller rules)
 checking_of (asked.Rights name) text = rules_in text >>= λ rules. Ok (checking.Rights name rules)
+checking_of (asked.Reverse origin) text = records_of text >>= λ records. Ok (checking.Reverse origin records)
 checking_of (asked.Zone origin filter) text = zone_of_file origin text >>= λ zone. Ok (checking.Zone zone filter)
 
 -- the words are read first, and then the input
@@ -131,6 +135,7 @@ IsReportOn (checking.Changes old rules) findings text = IsChangesReport old.now 
 IsReportOn (checking.Expected policy rows) findings text = IsExpectReport policy.now rows findings text
 IsReportOn (checking.Isolation caller rules) findings text = IsIsolationReport rules caller findings text
 IsReportOn (checking.Rights name rules) findings text = IsRightsText name rules text × (findings ≡ Absent)
+IsReportOn (checking.Reverse origin records) findings text = IsReverseReport origin records findings text
 IsReportOn (checking.Zone zone filter) findings text = IsZoneReport zone filter findings text
 
 -- the report on what is read

@@ -11,9 +11,11 @@ pub mod ZoneCheck
 pub mod RightsCheck
 pub mod ReportLines
 pub mod Expect
+pub mod Reverse
 pub mod PolicyChanges
 pub mod Check
 pub mod PolicyChangeAnswers
+pub mod ExpectAnswers
 pub mod Guards
 pub mod GuardPromises
 pub mod Diff

@@ -20,7 +20,11 @@ use std::alloc::{AllocError, Global};
 use zone_answers::ZoneIndex;
 
 /// Appends the lines of records. The only error is out of memory.
-fn push_records(alloc: Global, text: &mut Vec<u8>, records: &[Record]) -> Result<(), AllocError>
+pub(crate) fn push_records(
+    alloc: Global,
+    text: &mut Vec<u8>,
+    records: &[Record],
+) -> Result<(), AllocError>
     ensures { OnOk result (text.new.items ≡ text.old.items ++ records_text records.now) }
 {
     for record in records {

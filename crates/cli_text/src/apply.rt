@@ -34,7 +34,7 @@ fn root(alloc: Global) -> Result<Name, LineFault>
 }
 
 /// The records of a master file, relative to the root.
-fn read_records(alloc: Global, file: &[u8]) -> Result<Vec<Record>, LineFault>
+pub(crate) fn read_records(alloc: Global, file: &[u8]) -> Result<Vec<Record>, LineFault>
     ensures { Gives (λ records. records.items) result (records_of file.now) }
 {
     let root = root(alloc)?;

@@ -1,5 +1,5 @@
 //! What is true of a policy whatever is asked: which of its rules never decide, what it changes, whether a caller is isolated, and who may
-//! do what. And what is wrong in a zone.
+//! do what. And what is wrong in a zone, or called for by zones.
 
 ghost use Rattle.std.specs.Prelude.{◌≡◌, ◌++◌, ◌<◌, ℕ, IfOk, OnOk, decimal, option_map};
 ghost use Rattle.cli_text.specs.ReportLines.{id_text, right_text, other_text};
@@ -11,6 +11,7 @@ ghost use Rattle.cli_text.specs.Check.{rules_in, name_if, asked_in, checking_of,
 use crate::canon::{read_name, zone_of_file};
 use crate::expect::{Expectations, expect_report, expectations_in};
 use crate::policy_changes::changes_report;
+use crate::reverse::{ForwardRecords, forward_records, reverse_report};
 use crate::rights::read_caller;
 use crate::rights_check::rights_list;
 use crate::zone_check::{RuleFilter, filter_of, zone_report};
@@ -35,6 +36,8 @@ pub enum Subject<'a> {
     Isolation(&'a str),
     /// Who may do what, at the name that this word is, or at all names.
     Rights(Option<&'a str>),
+    /// The pointers that its addresses call for in the reverse zone of this origin.
+    Reverse(&'a str),
     /// What other name servers refuse or warn of in the zone of this origin, by these rules.
     Zone(&'a str, RuleChoice<'a>),
 }
@@ -56,6 +59,7 @@ enum Asked<'a> {
     Expected(&'a Policy),
     Isolation(Identifier),
     Rights(Option<Name>),
+    Reverse(Name),
     Zone(Name, RuleFilter),
 }
 
@@ -67,6 +71,7 @@ enum Checking<'a> {
     Expected(&'a Policy, Expectations),
     Isolation(Identifier, Policy),
     Rights(Option<Name>, Policy),
+    Reverse(Name, ForwardRecords),
     Zone(Zone, RuleFilter),
 }
 
@@ -109,6 +114,7 @@ fn asked_in<'a>(alloc: Global, subject: Subject<'a>) -> Result<Asked<'a>, LineFa
         Subject::Expected(policy) => Ok(Asked::Expected(policy)),
         Subject::Isolation(word) => Ok(Asked::Isolation(read_caller(alloc, word)?)),
         Subject::Rights(word) => Ok(Asked::Rights(name_if(alloc, word)?)),
+        Subject::Reverse(word) => Ok(Asked::Reverse(read_name(alloc, word)?)),
         Subject::Zone(origin, rules) => zone_asked(alloc, origin, rules),
     }
 }
@@ -134,6 +140,10 @@ fn checking_of<'a>(
         Asked::Expected(policy) => Ok(Checking::Expected(policy, expectations_in(alloc, text)?)),
         Asked::Isolation(caller) => Ok(Checking::Isolation(caller, policy_in(alloc, text)?)),
         Asked::Rights(name) => Ok(Checking::Rights(name, policy_in(alloc, text)?)),
+        Asked::Reverse(origin) => {
+            let forward = forward_records(alloc, text)?;
+            Ok(Checking::Reverse(origin, forward))
+        }
         Asked::Zone(origin, filter) => {
             Ok(Checking::Zone(zone_of_file(alloc, origin, text)?, filter))
         }
@@ -335,6 +345,7 @@ fn report_on(alloc: Global, checking: &Checking<'_>) -> Result<Report, AllocErro
         Checking::Expected(policy, expected) => expect_report(alloc, policy, expected),
         Checking::Isolation(caller, policy) => isolation_report(alloc, policy, caller),
         Checking::Rights(name, policy) => rights_report(alloc, policy, name),
+        Checking::Reverse(origin, forward) => reverse_report(alloc, origin, forward),
         Checking::Zone(zone, rules) => zone_report(alloc, zone, *rules),
     }
 }
@@ -356,7 +367,7 @@ fn report_read<R: Input>(
 /// caller from that: `soa`, a name, and a type, an action and a rule by which the caller may see an SOA there; or `shared`, a name, what
 /// the caller may do there, another caller or `*` for any that no rule names, and what that one may do. Of expectations it is a line for
 /// each that is not so: `differs`, its line, and what is decided; or `exceeds`, its line, and a caller, a name, a type, an action and a
-/// rule that grants beyond its limit. Otherwise one line tells the refusal that comes first: of the caller, that the input is too large,
+/// rule that grants beyond its limit. Of forward zones it is the PTR records that their addresses call for. Otherwise one line tells the refusal that comes first: of the caller, that the input is too large,
 /// or what is wrong in it.
 pub fn do_check<R: Input, W: Sink>(
     alloc: Global,

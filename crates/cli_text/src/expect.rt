@@ -1,15 +1,18 @@
 //! What is expected of a policy and is not so, as text.
 
-ghost use Rattle.std.specs.Prelude.{◌≡◌, ◌++◌, ℕ, List, [], IfOk, OnOk};
+ghost use Rattle.std.specs.Prelude.{◌≡◌, List, IfOk};
 ghost use Rattle.policy_tools.specs.declared.expectation_lines.ExpectationLine.{ExpectationLine as RowOf};
-ghost use Rattle.cli_core.specs.LineFaults.{Gives, GivesOf};
-ghost use Rattle.cli_core.specs.declared.word_fault.WordFault.{WordFault as FaultOf};
+ghost use Rattle.cli_core.specs.LineFaults.{Gives};
+ghost use Rattle.cli_text.specs.ExpectAnswers.{AreExpected};
 ghost use Rattle.cli_text.specs.Expect.{word_fault, of_expectations, expectations_read, differs_line, exceeds_line, example_line, IsRowText, AreRowTexts, IsExpectReport};
 
-use crate::check::{Findings, Report, push_other, push_right};
+use crate::check::{Findings, Report, Subject, do_check, push_other, push_right};
+use crate::expect_fault::ExpectFault;
+use crate::policy_changes::old_policy;
 use crate::rights::decision_text;
 use crate::zone_check::told;
-use cli_core::{LineFault, Refusal, WordFault};
+use cli_core::{Input, LineFault, Refusal, WordFault};
+use dns_master::Sink;
 use grant_policy::{Decision, Policy, Rule};
 use policy_tools::{
     Counterexample, Excess, ExpectationFault, ExpectationLine, ExpectationsFault,
@@ -147,4 +150,28 @@ pub(crate) fn expect_report(
     let text = rows_text(alloc, policy, &expected.rows)?;
     let findings = told(&text);
     Ok(Report { findings, text })
+}
+
+/// Writes what is expected of a policy and is not so: a line for each expectation that does not hold, in order. Two inputs are the policy
+/// and what is expected of it, which is read after it. Otherwise one line tells the refusal that comes first: that the policy is too
+/// large, or what is wrong in it; and that the expectations are too large, or the first line that is none.
+pub fn do_expect<R: Input, N: Input, W: Sink>(
+    alloc: Global,
+    policy: &mut R,
+    expected: &mut N,
+    writer: &mut W,
+) -> Result<Findings, ExpectFault>
+    ensures { AreExpected
+        (record { left = R.left policy.old; fine = R.fine policy.old policy.new; failed = R.failed policy.old policy.new })
+        (record { left = N.left expected.old; fine = N.fine expected.old expected.new; failed = N.failed expected.old expected.new }) (W.contents writer.old)
+        (W.contents writer.new) result (W.failures writer.old) (W.failures writer.new) }
+{
+    let policy = match old_policy(alloc, policy, writer) {
+        Ok(policy) => policy,
+        Err(fault) => return Err(ExpectFault::Policy(fault)),
+    };
+    match do_check(alloc, Subject::Expected(&policy), expected, writer) {
+        Ok(findings) => Ok(findings),
+        Err(fault) => Err(ExpectFault::Expected(fault)),
+    }
 }

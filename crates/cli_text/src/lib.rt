@@ -11,6 +11,7 @@ mod check;
 mod diff;
 mod diff_fault;
 mod expect;
+mod expect_fault;
 mod explain;
 mod filling;
 mod guard;
@@ -24,6 +25,7 @@ mod policy_changes;
 mod query_type;
 mod questions;
 mod request;
+mod reverse;
 mod rights;
 mod rights_check;
 mod slots;
@@ -39,6 +41,8 @@ pub use changes_fault::ChangesFault;
 pub use check::{Findings, Subject, do_check, name_if};
 pub use diff::do_diff;
 pub use diff_fault::DiffFault;
+pub use expect::do_expect;
+pub use expect_fault::ExpectFault;
 pub use laws::{
     diffs_are_guarded, diffs_lead, guards_test_sets, splits_are_parts, text_is_divided,
     zones_are_read_again,

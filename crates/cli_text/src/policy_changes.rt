@@ -155,7 +155,7 @@ fn read_policy_of<R: Input>(alloc: Global, reader: &mut R) -> Result<Policy, Lin
 }
 
 /// The policy that a reader gives. On a failure, a line tells why.
-fn old_policy<R: Input, W: Sink>(
+pub(crate) fn old_policy<R: Input, W: Sink>(
     alloc: Global,
     reader: &mut R,
     writer: &mut W,

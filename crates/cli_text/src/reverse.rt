@@ -1,0 +1,54 @@
+//! The PTR records that the addresses of forward zones call for, as text.
+
+ghost use Rattle.std.specs.Prelude.{◌≡◌, List, IfOk};
+ghost use Rattle.dns_data.specs.declared.record.Record.{Record as RecordOf};
+ghost use Rattle.cli_core.specs.LineFaults.{Gives};
+ghost use Rattle.cli_text.specs.Apply.{records_of};
+ghost use Rattle.cli_text.specs.Reverse.{IsReverseReport};
+
+use crate::answer::push_records;
+use crate::apply::read_records;
+use crate::check::{Findings, Report};
+use cli_core::LineFault;
+use dns_data::Record;
+use dns_names::Name;
+use std::alloc::{AllocError, Global};
+use std::marker::Model;
+use zone_tools::reverse_pointers;
+
+/// The records of forward zones. A contract sees the list of them.
+#[derive(Drop)]
+pub(crate) struct ForwardRecords {
+    records: Vec<Record>,
+}
+
+impl Model for ForwardRecords {
+    ghost Value = { List RecordOf };
+
+    ghost view = { λ f. f.records.items };
+}
+
+/// The records of a text that has master files, one behind the other, whose octets are given back.
+pub(crate) fn forward_records(alloc: Global, text: Vec<u8>) -> Result<ForwardRecords, LineFault>
+    ensures { Gives (λ records. records) result (records_of text.items) }
+{
+    let records = read_records(alloc, &text)?;
+    Ok(ForwardRecords { records })
+}
+
+/// The report of pointers: their lines. It finds nothing. The only error is out of memory.
+pub(crate) fn reverse_report(
+    alloc: Global,
+    origin: &Name,
+    forward: &ForwardRecords,
+) -> Result<Report, AllocError>
+    ensures { IfOk result (λ report. IsReverseReport origin.now forward.now report.findings report.text.items) }
+{
+    let pointers = reverse_pointers(alloc, origin, &forward.records)?;
+    let mut text = Vec::new(alloc);
+    push_records(alloc, &mut text, &pointers)?;
+    Ok(Report {
+        findings: Findings::Absent,
+        text,
+    })
+}
