@@ -1,5 +1,5 @@
 -- What the program does: the job that the words of its command line ask for, in what is around it, and the status with which it ends.
-use Rattle.std.specs.Prelude.{◌≡◌, ◌≢◌, ◌<◌, ◌⊎◌, ⊤, ℕ, List, [], codes, Option, Some, None, option_map, Result, Ok, Err, string_bytes}
+use Rattle.std.specs.Prelude.{◌≡◌, ◌≢◌, ◌<◌, ◌⊎◌, ⊤, ℕ, List, [], codes, Option, Some, None, option_map, unwrap_or, Result, Ok, Err, string_bytes}
 use Rattle.dns_master.specs.declared.device.DeviceFailed.{DeviceFailed}
 use Rattle.cli_core.specs.declared.commands.check.Check.{Check}
 use Rattle.cli_core.specs.declared.commands.check.Check.TheVariants as check
@@ -29,6 +29,8 @@ use Rattle.cli_text.specs.declared.check.Subject.{Subject}
 use Rattle.cli_text.specs.declared.check.Subject.TheVariants.{Rules, Isolation, Rights, Reverse, Zone}
 use Rattle.cli_text.specs.declared.changes_fault.ChangesFault.{ChangesFault}
 use Rattle.cli_text.specs.declared.diff_fault.DiffFault.{DiffFault}
+use Rattle.cli_text.specs.declared.expect_fault.ExpectFault.{ExpectFault}
+use Rattle.cli_text.specs.ExpectAnswers.{AreExpected}
 use Rattle.cli_core.specs.Inputs.{InputOf}
 use Rattle.cli_core.specs.declared.commands.answer.Answer.{Answer}
 use Rattle.cli_text.specs.declared.answer_fault.AnswerFault.{AnswerFault}
@@ -124,6 +126,17 @@ abbrev pub EndsChanges : {H : Type 0} → Around H → List ℕ → List ℕ →
 EndsChanges a against policy o status = (outcome : Result Findings ChangesFault)
     × AreChangesChecked (named a against) (named a policy) o.old o.new outcome o.before o.after × (status ≡ check_status_of outcome)
 
+-- The policy of the path is read, and then what is expected of it. At 0 both were read, and all is as expected.
+abbrev pub EndsExpectedBy : {H : Type 0} → Around H → List ℕ → InputOf → Writing → ℕ → Type 0
+EndsExpectedBy a policy expected o status = (outcome : Result Findings ExpectFault)
+    × AreExpected (named a policy) expected o.old o.new outcome o.before o.after × (status ≡ check_status_of outcome)
+
+-- that is the input that a path names: standard input, if it is `-` or none is given, or a file
+abbrev pub EndsExpected : {H : Type 0} → Around H → Reading → List ℕ → Option (List ℕ) → Writing → ℕ → Type 0
+EndsExpected a i policy path o status =
+    ((unwrap_or path (codes "-") ≢ codes "-") × IsUnread i × EndsExpectedBy a policy (named a (unwrap_or path (codes "-"))) o status)
+    ⊎ ((unwrap_or path (codes "-") ≡ codes "-") × EndsExpectedBy a policy (standard i) o status)
+
 -- The items between the zones of two files: a path that is `-` is standard input, of which nothing is left for the second file where the
 -- first is it too. Where neither is, standard input is not read.
 abbrev pub DiffersBy : {H : Type 0} → Around H → Reading → DiffForm → List ℕ → ZoneFiles → Writing → Result (Unit {0}) DiffFault → Type 0
@@ -159,6 +172,7 @@ AnswerEnds a i w o status =
 abbrev pub CheckEnds : {H : Type 0} → Around H → Reading → Writing → Check → ℕ → Type 0
 CheckEnds a i o (check.Policy policy None) status = IsUnread i × EndsCheck Rules (a.file policy.now) ⊤ (a.unreadable policy.now) o status
 CheckEnds a i o (check.Policy policy (Some against)) status = IsUnread i × EndsChanges a against.now policy.now o status
+CheckEnds a i o (check.Expect policy file) status = EndsExpected a i policy.now (option_map (λ f. f.now) file) o status
 CheckEnds a i o (check.Isolation policy caller) status = IsUnread i × EndsCheck (Isolation caller) (a.file policy.now) ⊤ (a.unreadable policy.now) o status
 CheckEnds a i o (check.Rights policy name) status = IsUnread i × EndsCheck (Rights name) (a.file policy.now) ⊤ (a.unreadable policy.now) o status
 CheckEnds a i o (check.Zone origin rules) status = EndsCheck (Zone origin rules) i.left (i.after ≡ i.before) (i.before < i.after) o status

@@ -1,11 +1,11 @@
 //! What the program does with the words of its command line, in surroundings, with files of stores and with streams that are handed in.
 
-ghost use Rattle.std.specs.Prelude.{◌≡◌, ◌↔◌, ⊤, IsTrue, map, codes};
+ghost use Rattle.std.specs.Prelude.{◌≡◌, ◌↔◌, ⊤, IsTrue, map, option_map, codes};
 ghost use Rattle.std.specs.Process.{exit_status};
 ghost use Rattle.sqlite.specs.Held.{state};
 ghost use Rattle.cli_text.specs.Plan.{IsPlanned};
 ghost use Rattle.cli_store.specs.Stores.{stores_of};
-ghost use Rattle.cli_store.specs.Program.{Ends, EndsTask, EndsCheck, EndsChanges, EndsCheckOf, EndsExpected, EndsTaskOf, IsInquiredOf, AnswerEnds, DiffersBy, named, standard, requested, CheckEnds, TextJobEnds, StoreJobEnds, JobEnds, EndsFault, WordsEnd, IsToldWhole, status_of, check_status_of};
+ghost use Rattle.cli_store.specs.Program.{Ends, EndsTask, EndsCheck, EndsChanges, EndsCheckOf, EndsExpectedBy, EndsExpected, EndsTaskOf, IsInquiredOf, AnswerEnds, DiffersBy, named, standard, requested, CheckEnds, TextJobEnds, StoreJobEnds, JobEnds, EndsFault, WordsEnd, IsToldWhole, status_of, check_status_of};
 
 use crate::files::StoreFiles;
 use crate::migration::migrate;
@@ -20,7 +20,7 @@ use cli_core::{
 };
 use cli_text::{
     AnswerFault, Apply, DiffFault, Findings, Request, Split, Subject, Task, do_answers, do_changes,
-    do_check, do_diff, do_plan,
+    do_check, do_diff, do_expect, do_plan,
 };
 use dns_master::{Sink, Source};
 use sqlite::{Alter, Connection};
@@ -132,7 +132,29 @@ fn changes<M: Surroundings, W: Sink>(
     )
 }
 
-/// Writes what is expected of the policy of a path and is not so, by the expectations of another path, or of standard input.
+/// Writes what is expected of the policy of a path and is not so, by an input.
+fn expect_of<M: Surroundings, N: Input, W: Sink>(
+    around: &M,
+    policy: &str,
+    expected: &mut N,
+    output: &mut W,
+) -> ExitCode
+    ensures { EndsExpectedBy (M.around around.now) policy.now
+        (record { left = N.left expected.old; fine = N.fine expected.old expected.new; failed = N.failed expected.old expected.new })
+        (record { old = W.contents output.old; new = W.contents output.new; before = W.failures output.old; after = W.failures output.new })
+        (exit_status result) }
+{
+    let mut policy = NamedFile {
+        around,
+        path: policy,
+    };
+    check_status(
+        around,
+        do_expect(around.alloc(), &mut policy, expected, output),
+    )
+}
+
+/// The same by the input that a path names: standard input, if it is `-` or none is given, or a file.
 fn expect<M: Surroundings, R: Source, W: Sink>(
     around: &M,
     policy: &str,
@@ -146,23 +168,12 @@ fn expect<M: Surroundings, R: Source, W: Sink>(
         (record { old = W.contents output.old; new = W.contents output.new; before = W.failures output.old; after = W.failures output.new })
         (exit_status result) }
 {
-    let mut policy = NamedFile {
-        around,
-        path: policy,
-    };
-    match file {
-        None => check_status(
-            around,
-            do_expect(around.alloc(), &mut policy, input, output),
-        ),
-        Some(path) => {
-            let mut file = NamedFile { around, path };
-            check_status(
-                around,
-                do_expect(around.alloc(), &mut policy, &mut file, output),
-            )
-        }
+    let path = file.unwrap_or("-");
+    if is_standard(path) {
+        return expect_of(around, policy, input, output);
     }
+    let mut file = NamedFile { around, path };
+    expect_of(around, policy, &mut file, output)
 }
 
 /// Checks what the words of `check` name.
