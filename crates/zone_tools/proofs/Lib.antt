@@ -10,3 +10,4 @@ pub mod FindingLemmas
 pub mod ReverseNameLemmas
 pub mod ReverseBlockLemmas
 pub mod PointerLemmas
+pub mod SharedLemmas

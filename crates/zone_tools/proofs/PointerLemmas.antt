@@ -144,7 +144,7 @@ is_called origin rs r p c calls = of_among (called origin rs) p (flat_among (poi
 
 -- ---- orders
 
-data_total : IsTotalOrder data_order
+pub data_total : IsTotalOrder data_order
 data_total = then_total (on_total (λ d. rank_of (type_of d)) nat_cmp_total) (on_total data_text nat_list_cmp_total)
 
 choice_total : IsTotalOrder choice
@@ -182,11 +182,11 @@ then_lt Greater c e = refl
 sorted_by_owner : (ps : List Record) → IsSorted pointer_order ps → IsSorted owner_order ps
 sorted_by_owner ps up k d low high = then_lt (owner_order (get_or ps (k + 1) d) (get_or ps k d)) (choice (get_or ps (k + 1) d) (get_or ps k d)) (up k d low high)
 
-all_of : {X : Type 0} (P : X → Type 0) (xs : List X) → ((x : X) → Among x xs → P x) → AllByRecursion P xs
+pub all_of : {X : Type 0} (P : X → Type 0) (xs : List X) → ((x : X) → Among x xs → P x) → AllByRecursion P xs
 all_of P [] each = tt
 all_of P (x ∷ xs) each = (each x (inl refl), all_of P xs (λ y a. each y (inr a)))
 
-all_at : {X : Type 0} (P : X → Type 0) (xs : List X) (x : X) → AllByRecursion P xs → Among x xs → P x
+pub all_at : {X : Type 0} (P : X → Type 0) (xs : List X) (x : X) → AllByRecursion P xs → Among x xs → P x
 all_at P [] x all a = absurd a
 all_at P (y ∷ ys) x all (inl e) = subst P (sym e) all.0
 all_at P (y ∷ ys) x all (inr later) = all_at P ys x all.1 later
@@ -338,7 +338,7 @@ in_record_order (p ∷ ps) up = (all_less p ps up.0, in_record_order ps up.1)
 
 -- ---- there is one such list
 
-both_tied : (first second : Ordering) → ordering_then first second ≡ Equal → (first ≡ Equal) × (second ≡ Equal)
+pub both_tied : (first second : Ordering) → ordering_then first second ≡ Equal → (first ≡ Equal) × (second ≡ Equal)
 both_tied Less second e = absurd cc
 both_tied Equal second e = (refl, e)
 both_tied Greater second e = absurd cc

@@ -3,6 +3,7 @@ pub mod DifferencePromises
 pub mod HostNames
 pub mod ReverseNames
 pub mod Pointers
+pub mod SharedAddresses
 pub mod ZoneRules
 pub mod ZoneTests
 pub mod ZoneFindings

@@ -17,7 +17,7 @@ use std::alloc::{AllocError, Global};
 use std::cmp::Ordering;
 
 /// Whether a name is a wildcard, which stands for others (RFC 4592 section 2.1.1).
-fn is_wildcard(name: &Name) -> bool
+pub(crate) fn is_wildcard(name: &Name) -> bool
     ensures { result ≡ is_wildcard name.now }
 {
     match name.labels().next() {
