@@ -75,7 +75,7 @@ module _ (rs : List Record) where
   own_source : (name source : Name) → Exists rs name → IsSourceOf rs name source → source ≡ name
   own_source name source has is = (elim is [ inl own ↦ own.1 | inr over ↦ absurd (over.5 (exists_above name over.0 (over.1 ∷ over.2) over.3 has)) ])
 
-  among_filter : (p : Record → Bool) (xs : List Record) (r : Record) → Among r (filter p xs) ↔ (Among r xs × (p r ≡ true))
+  pub among_filter : (p : Record → Bool) (xs : List Record) (r : Record) → Among r (filter p xs) ↔ (Among r xs × (p r ≡ true))
   among_filter p [] r = (λ a. absurd a, λ a. absurd a.0)
   among_filter p (x ∷ xs) r = by_test (p x) refl (among_filter p xs r)
     where

@@ -7,3 +7,7 @@ pub mod AnswerLemmas
 pub mod AtFaultLemmas
 pub mod SurveyLemmas
 pub mod FindingLemmas
+pub mod ReverseNameLemmas
+pub mod ReverseBlockLemmas
+pub mod PointerLemmas
+pub mod SharedLemmas

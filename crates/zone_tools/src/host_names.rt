@@ -47,7 +47,7 @@ fn is_host_name(name: &Name) -> bool
 }
 
 /// Whether a label makes a wildcard (RFC 4592 section 2.1.1).
-fn is_asterisk(label: &[u8]) -> bool
+pub(crate) fn is_asterisk(label: &[u8]) -> bool
     ensures { result ≡ is_asterisk label.now }
 {
     label.len() == 1 && label[0] == b'*'

@@ -1,13 +1,18 @@
-//! What the hostmaster's tools ask of zones: which operations lead from one zone to another (RFC 2136 section 2.5); and what is
-//! wrong in a zone that the office takes, and other name servers refuse or warn of: names that are no hosts', servers that are
-//! aliases or have no addresses, and records that a delegation hides (RFC 1034 section 4.2.1, RFC 1123 section 2.1, RFC 2181
-//! section 10.3, RFC 4034 section 5).
+//! What the hostmaster's tools ask of zones: which operations lead from one zone to another (RFC 2136 section 2.5); which pointers the
+//! addresses of forward zones call for in a reverse zone, and which addresses several names have (RFC 1035 section 3.5, RFC 2317,
+//! RFC 3596 section 2.5); and what is wrong in a zone that the office takes, and other name servers refuse or warn of: names that are
+//! no hosts', servers that are aliases or have no addresses, and records that a delegation hides (RFC 1034 section 4.2.1, RFC 1123
+//! section 2.1, RFC 2181 section 10.3, RFC 4034 section 5).
 #![tactic(auto)]
 
 mod difference;
 mod host_names;
 mod laws;
+mod pointers;
+mod reverse_blocks;
+mod reverse_names;
 mod same;
+mod shared;
 mod zone_faults;
 mod zone_finding;
 mod zone_names;
@@ -15,7 +20,9 @@ mod zone_rule;
 mod zone_survey;
 
 pub use difference::operations_between;
-pub use laws::clean_zones_have_glue;
+pub use laws::{clean_zones_have_glue, pointers_are_one};
+pub use pointers::reverse_pointers;
 pub use same::{is_equal, is_same};
+pub use shared::shared_addresses;
 pub use zone_finding::{Finding, findings};
 pub use zone_rule::ZoneRule;

@@ -1,0 +1,10 @@
+use Rattle.std.proofs.Common.{◌∙◌, ap}
+use Rattle.dns_names.specs.Reading.{absolute_name}
+use Rattle.zone_tools.specs.ReverseNames.{ipv6_name}
+use Rattle.zone_tools.proofs.ReverseNameLemmas.{ipv6_read}
+use Rattle.zone_tools.proofs.reverse_names.ipv6_name.Goals as goal
+
+pub returns : goal.returns
+returns c =
+    c.name_of.ensures (ipv6_name c.args.address)
+    (ap absolute_name (c.deref.ensures.value ∙ c.in_ok-text.ensures.text) ∙ ipv6_read c.args.address c.ipv6_text.ensures.address)
