@@ -11,3 +11,7 @@ mod NameRightLemmas
 mod NameGroupLemmas
 mod GroupRowLemmas
 mod ChangeLemmas
+mod LimitLemmas
+mod ExpectationLemmas
+mod WordLaws
+mod ExpectationLaws

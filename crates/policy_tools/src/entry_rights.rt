@@ -5,8 +5,9 @@ ghost use Rattle.std.specs.List.{Contains};
 ghost use Rattle.grant_policy.specs.declared.callers.Callers.TheVariants.{One};
 ghost use Rattle.policy_tools.specs.declared.claims.Entry.{Entry as EntryOf};
 ghost use Rattle.policy_tools.specs.declared.exposure.Right.{Right as RightOf};
-ghost use Rattle.policy_tools.specs.EntryRights.{IsWanted, IsGrant, GrantsAmong, GrantsOthers};
+ghost use Rattle.policy_tools.specs.EntryRights.{IsWanted, IsGrant, GrantsAmong, GrantsOthers, GrantsUnlisted, are_listed};
 
+use crate::caller_list::CallerList;
 use crate::claims::Entry;
 use crate::exposure::Right;
 use crate::points::Points;
@@ -47,6 +48,35 @@ pub(crate) fn other_right(entries: &[Entry<'_>], caller: &Identifier) -> Option<
         }
     }
     None
+}
+
+/// One of some rights that entries grant others than the callers of a list.
+pub(crate) fn unlisted_right(
+    entries: &[Entry<'_>],
+    listed: &CallerList,
+    wanted: Points,
+) -> Option<Right>
+    ensures { MatchOption result ((e : EntryOf) (right : RightOf) → Contains entries.now e → ¬ GrantsUnlisted listed.now wanted.entry.bits e right)
+        (λ right. (e : EntryOf) × Contains entries.now e × GrantsUnlisted listed.now wanted.entry.bits e right) }
+{
+    for entry in entries {
+        if !are_listed(&entry.claim.rule.callers, listed) {
+            if let Some(right) = granted(*entry, entry.left, wanted) {
+                return Some(right);
+            }
+        }
+    }
+    None
+}
+
+/// Whether a list has the caller of whom alone a rule speaks.
+fn are_listed(callers: &Callers, listed: &CallerList) -> bool
+    ensures { result ≡ are_listed listed.now callers.now }
+{
+    match callers {
+        Callers::Every => false,
+        Callers::One(identifier) => listed.include(identifier),
+    }
 }
 
 /// Whether a caller is the only one of whom a rule speaks.
