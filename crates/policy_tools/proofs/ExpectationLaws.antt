@@ -1,5 +1,5 @@
 -- Expectations: what is read is in the grammar, and what is in the grammar is read.
-use Rattle.std.proofs.Common.{◌≡◌, ◌≢◌, ◌⊎◌, ◌↔◌, inl, inr, ℕ, ◌+◌, ◌-◌, ◌<◌, ◌≤◌, Bool, true, false, cond, ltb, leb, zero, suc, List, [], ◌∷◌, ◌++◌, length, take, drop, Option, Some, None, Result, Ok, Err, refl, sym, ap, ◌∙◌, subst, ⊎_elim, codes, arith, length-append}
+use Rattle.std.proofs.Common.{◌≡◌, ◌≢◌, ◌⊎◌, ◌↔◌, inl, inr, ℕ, ◌+◌, ◌-◌, ◌<◌, ◌≤◌, Bool, true, false, cond, ltb, leb, zero, suc, List, [], ◌∷◌, ◌++◌, length, take, drop, Option, Some, None, Result, Ok, Err, IfOk, Vec, Global, eqb, refl, sym, ap, ◌∙◌, subst, ⊎_elim, codes, arith, length-append}
 use Rattle.std.specs.Prelude.{bytes_eq}
 use Rattle.std.specs.Bool.{Decides}
 use Rattle.std.specs.List.{AllByRecursion, find}
@@ -32,10 +32,10 @@ use Rattle.policy_tools.specs.declared.expectation_fault.ExpectationFault.{Expec
 use Rattle.policy_tools.specs.declared.expectation_fault.ExpectationFault.TheVariants.{Form, NoCaller, TypeNotKept, NoAction, NoRule}
 use Rattle.policy_tools.specs.declared.expectation_fault.ExpectationsFault.{ExpectationsFault}
 use Rattle.policy_tools.specs.declared.expectation_lines.ExpectationLine.{ExpectationLine}
-use Rattle.policy_tools.specs.ExpectationFaults.{or_fault, of_names, ◌>>=◌, ◌>>>=◌}
-use Rattle.policy_tools.specs.ExpectationLines.{AreWords, effect_word, SpellsRule, SpellsDecision, AreListable, SpellsListed, SpellsOne, place_word, SpellsLimit, SpellsExpectation, AreExpectations}
-use Rattle.policy_tools.specs.ExpectationReading.{words_of, rule_in, decision_in, listable_of, callers_in, is_nobody, listed_in, one_in, place_of, limit_of, limit_in, expectation_in, row_of, expectations_from}
-use Rattle.policy_tools.proofs.WordLaws.{words_found, words_only, words_octets}
+use Rattle.policy_tools.specs.ExpectationFaults.{ReadsText, or_fault, of_names, ◌>>=◌, ◌>>>=◌}
+use Rattle.policy_tools.specs.ExpectationLines.{AreWords, effect_word, SpellsRule, SpellsDecision, AreListable, SpellsListed, SpellsOne, place_word, SpellsLimit, SpellsExpectation, AreExpectations, lines_of}
+use Rattle.policy_tools.specs.ExpectationReading.{words_of, rule_in, decision_in, listable_of, callers_in, is_nobody, listed_in, one_in, place_of, limit_of, limit_in, expectation_in, row_of, expectations_from, expectations_of}
+use Rattle.policy_tools.proofs.WordLaws.{words_found, words_only, words_octets, parts_octets}
 
 -- ---- steps
 
@@ -480,3 +480,15 @@ rows_only number (line ∷ lines) rows (inr (words, row, others, whole, at, spel
     (ap (λ (n : ℕ). text_ok (Some (record { line = n; expectation = row.expectation }))) (sym at))
     (rows_only (number + 1) lines others are)
     ∙ ap text_ok (sym whole)
+
+-- ---- what a call read
+
+abbrev Rows : Type 0
+Rows = Vec ExpectationLine Global
+
+pub read_found : (text : List ℕ) (r : Result Rows ExpectationsFault) → IsBytes text → ReadsText (λ rows. rows.items) r (expectations_of text) → IfOk r (λ rows. AreExpectations 1 (lines_of text) rows.items)
+read_found text (Ok rows) bytes is = rows_found 1 (lines_of text) rows.items (parts_octets (λ (o : ℕ). o < 256) (λ (o : ℕ). eqb o 10) text bytes) is
+read_found text (Err fault) bytes is = tt
+
+pub read_only : (text : List ℕ) (r : Result Rows ExpectationsFault) → ReadsText (λ rows. rows.items) r (expectations_of text) → (rows : List ExpectationLine) → AreExpectations 1 (lines_of text) rows → ReadsText (λ read. read.items) r (Ok rows)
+read_only text r is rows are = subst (λ (read : Result (List ExpectationLine) ExpectationsFault). ReadsText (λ v. v.items) r read) (rows_only 1 (lines_of text) rows are) is

@@ -12,6 +12,7 @@ use Rattle.policy_tools.specs.declared.expectations.Counterexample.{Counterexamp
 use Rattle.policy_tools.specs.declared.expectations.Counterexample.TheVariants.{Decided, Granted}
 use Rattle.policy_tools.specs.declared.limits.Excess.{Excess}
 use Rattle.policy_tools.specs.Expectations.{Holds, IsAsExpected, IsCounterexample, decided_of}
+use Rattle.policy_tools.specs.Limits.{IsKept, IsExcess}
 use Rattle.policy_tools.proofs.LimitLemmas.{excess_not}
 
 example_not : (rules : List Rule) (expectation : Expectation) (example : Counterexample) → IsCounterexample rules expectation example → ¬ Holds rules expectation
@@ -27,3 +28,8 @@ none_exactly rules expectation (Some example) is = (λ none. absurd cc, λ holds
 pub exactly : {E : Type 0} (rules : List Rule) (expectation : Expectation) (r : Result (Option Counterexample) E) → IfOk r (λ found. MatchOption found (Holds rules expectation) (IsCounterexample rules expectation)) → IfOk r (λ found. (found ≡ None) ↔ Holds rules expectation)
 exactly rules expectation (Ok found) is = none_exactly rules expectation found is
 exactly rules expectation (Err e) is = tt
+
+-- what is granted beyond a limit, as a counterexample
+pub granted_is : (rules : List Rule) (limit : Limit) (found : Option Excess) (result : Option Counterexample) → MatchOption found (result ≡ None) (λ excess. result ≡ Some (Granted excess)) → MatchOption found (IsKept rules limit) (IsExcess rules limit) → MatchOption result (Holds rules (Keeps limit)) (IsCounterexample rules (Keeps limit))
+granted_is rules limit None result e is = subst (λ (o : Option Counterexample). MatchOption o (Holds rules (Keeps limit)) (IsCounterexample rules (Keeps limit))) (sym e) is
+granted_is rules limit (Some excess) result e is = subst (λ (o : Option Counterexample). MatchOption o (Holds rules (Keeps limit)) (IsCounterexample rules (Keeps limit))) (sym e) is

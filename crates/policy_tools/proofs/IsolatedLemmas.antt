@@ -82,7 +82,7 @@ granted_by_rule rules caller name right g =
     let p = question caller name right.record_type right.action in
     (g.rule.id, decision_one p rules (decision p rules) (decided g.rule) (decision_found p rules) (inl (right.rule, g.rule, g.first, refl)) ∙ ap (λ (e : Effect). effect_by e g.rule.id) g.grants)
 
-pub rule_of_grant : (rules : List Rule) (caller : List ℕ) (name : List (List ℕ)) (t : RecordType) (a : Action) → IsGranted rules caller name t a → (i : ℕ) × IsGrantedBy rules caller name (record { record_type = t; action = a; rule = i })
+unfoldable pub rule_of_grant : (rules : List Rule) (caller : List ℕ) (name : List (List ℕ)) (t : RecordType) (a : Action) → IsGranted rules caller name t a → (i : ℕ) × IsGrantedBy rules caller name (record { record_type = t; action = a; rule = i })
 rule_of_grant rules caller name t a g =
     let p = question caller name t a in
     let by = grants_by p rules g.0 (subst (λ (v : Verdict). IsDecision p rules v) g.1 (decision_found p rules)) in
@@ -149,7 +149,7 @@ spoken_of rules caller name right g =
     let b = (matches-Decides (question caller name right.record_type right.action) g.rule).1 g.first.matching in
     (fst (is_of g.rule.callers caller) says b, snd (is_of g.rule.callers caller) says b)
 
-pub at_granted : (rules : List Rule) (callers : Callers) (caller : List ℕ) (name : List (List ℕ)) (right : Right) → ((own : Callers) → includes own callers ≡ true → is_of own caller ≡ true) → (g : IsGrantedBy rules caller name right) → includes g.rule.callers callers ≡ true → GrantsAt rules callers name right
+unfoldable pub at_granted : (rules : List Rule) (callers : Callers) (caller : List ℕ) (name : List (List ℕ)) (right : Right) → ((own : Callers) → includes own callers ≡ true → is_of own caller ≡ true) → (g : IsGrantedBy rules caller name right) → includes g.rule.callers callers ≡ true → GrantsAt rules callers name right
 at_granted rules callers caller name right more g of =
     let t = right.record_type in
     let a = right.action in
@@ -223,7 +223,7 @@ module _ (rules : List Rule) (name : List (List ℕ)) (entries : List Entry) (ar
       }
 
   -- what is left to the rule of an entry is granted by it
-  pub left_at : (e : Entry) (wanted : ℕ) (right : Right) → Contains entries e → IsGrant e e.left.bits wanted right → GrantsAt rules e.claim.rule.now.callers name right
+  unfoldable pub left_at : (e : Entry) (wanted : ℕ) (right : Right) → Contains entries e → IsGrant e e.left.bits wanted right → GrantsAt rules e.claim.rule.now.callers name right
   left_at e wanted right in' g =
       let t = right.record_type in
       let a = right.action in

@@ -14,4 +14,5 @@ mod ChangeLemmas
 mod LimitLemmas
 mod ExpectationLemmas
 mod WordLaws
+mod ReadingLemmas
 mod ExpectationLaws

@@ -1,5 +1,5 @@
 -- Whether a limit is kept, by the entries at names that represent its names.
-use Rattle.std.proofs.Common.{◌≡◌, ◌≢◌, ℕ, ◌+◌, ◌<◌, ◌≤◌, Bool, true, false, ◌&&◌, List, [], ◌∷◌, ◌++◌, length, map, get_or, take, Option, Some, None, refl, sym, ap, ◌∙◌, subst, arith, ⊎_elim, length-append}
+use Rattle.std.proofs.Common.{◌≡◌, ◌≢◌, ℕ, ◌+◌, ◌<◌, ◌≤◌, ◌^◌, Bool, true, false, ◌&&◌, List, [], ◌∷◌, ◌++◌, length, map, get_or, take, Option, Some, None, Result, Ok, Err, IfOk, Vec, Global, refl, sym, ap, ◌∙◌, subst, arith, ⊎_elim, length-append}
 use Rattle.std.specs.Prelude.{slice_get, bytes_eq}
 use Rattle.std.specs.List.{Contains, list_any}
 use Rattle.std.proofs.lemmas.Bool.{false≢true, false_from_ne_true, and_from}
@@ -61,15 +61,15 @@ not_listed listed (One identifier) caller of unlisted =
     false_from_ne_true (are_listed listed (One identifier)) (λ yes'. unlisted (subst (Contains listed) ((bytes_eq-Decides identifier caller).0 of) (listed_in listed identifier yes')))
 
 -- there is always another identifier, that neither a limit lists nor a rule names
-unknown_some : (rules : List Rule) (limit : Limit) → length rules ≤ 1024 → length limit.callers < 18446744073709551616 → (caller : List ℕ) × IsIdentifier caller × IsUnknown rules limit caller
+unknown_some : (rules : List Rule) (limit : Limit) → length rules ≤ 1024 → length limit.callers < 2 ^ 64 → (caller : List ℕ) × IsIdentifier caller × IsUnknown rules limit caller
 unknown_some rules limit few short = (
-    free.0,
-    free.1,
-    record {
-      unlisted = λ in'. not_one free.0 (One free.0) (free.2 (One free.0) (Contains-append_left ones others (One free.0) (in_map One listed free.0 in'))) refl;
-      unnamed = λ rule in'. not_one free.0 rule.callers (free.2 rule.callers (Contains-append_right ones others rule.callers (in_map f rules rule in')));
-    },
-  )
+  free.0,
+  free.1,
+  record {
+    unlisted = λ in'. not_one free.0 (One free.0) (free.2 (One free.0) (Contains-append_left ones others (One free.0) (in_map One listed free.0 in'))) refl;
+    unnamed = λ rule in'. not_one free.0 rule.callers (free.2 rule.callers (Contains-append_right ones others rule.callers (in_map f rules rule in')));
+  },
+)
   where
     listed : List (List ℕ)
     listed = limit.callers
@@ -135,14 +135,14 @@ module _ (rules : List Rule) (limit : Limit) (name : List (List ℕ)) (entries :
       let free : are_listed limit.callers found.0.claim.rule.now.callers ≡ false = subst (λ (c : Callers). are_listed limit.callers c ≡ false) (sym found.2) (not_listed limit.callers callers caller of unlisted) in
       none found.0 right found.1 (record { unlisted = free; grant = record { grants = found.3.grants; in_own = found.3.in_own; in_wanted = in_pairs limit wanted name t a pairs limited; number = found.3.number } })
 
-  unlisted_has : (callers : Callers) (right : Right) → length rules ≤ 1024 → length limit.callers < 18446744073709551616 → are_listed limit.callers callers ≡ false → GrantsAt rules callers name right → UnlistedHas rules limit name (named_of callers) right
+  unlisted_has : (callers : Callers) (right : Right) → length rules ≤ 1024 → length limit.callers < 2 ^ 64 → are_listed limit.callers callers ≡ false → GrantsAt rules callers name right → UnlistedHas rules limit name (named_of callers) right
   unlisted_has Every right few short free g = record {
     some = unknown_some rules limit few short;
     each = λ other is. granted_at rules Every other name right (λ rule in'. not_named rule.callers other (unnamed_by rule.callers other (is.unnamed rule in'))) g;
   }
   unlisted_has (One identifier) right few short free g = (unlisted_one limit.callers identifier free, granted_at rules (One identifier) identifier name right (λ rule in'. refl) g)
 
-  pub excess_is : (right : Right) (rule : Rule) (caller : Option (List ℕ)) → length rules ≤ 1024 → length limit.callers < 18446744073709551616 → IsName name → Covers limit.scope limit.at name → slice_get rules right.rule ≡ Some rule → caller ≡ named_of rule.callers → (e : Entry) × Contains entries e × GrantsUnlisted limit.callers wanted e right → IsExcess rules limit (record { caller = caller; name = name; right = right })
+  pub excess_is : (right : Right) (rule : Rule) (caller : Option (List ℕ)) → length rules ≤ 1024 → length limit.callers < 2 ^ 64 → IsName name → Covers limit.scope limit.at name → slice_get rules right.rule ≡ Some rule → caller ≡ named_of rule.callers → (e : Entry) × Contains entries e × GrantsUnlisted limit.callers wanted e right → IsExcess rules limit (record { caller = caller; name = name; right = right })
   unfolding left_at
   excess_is right rule caller few short is covered at whose (e, in', g) =
       let granted = left_at rules name entries are e wanted right in' g.grant in
@@ -177,14 +177,18 @@ limit_names rules limit places names' are rep = record {
       let r = rep.each name is in
       let own = subst (λ (l : List Rule). Contains l are.place) (sym are.are) (Contains-push (map place_of rules) are.place) in
       let same : covers limit.scope limit.at name ≡ covers limit.scope limit.at r.0 =
-          subst (λ (s : Scope). covers s limit.at name ≡ covers s limit.at r.0) are.scope
-          (subst (λ (at : List (List ℕ)). covers are.place.scope at name ≡ covers are.place.scope at r.0) are.at (r.2 are.place own)) in (
+      subst (λ (s : Scope). covers s limit.at name ≡ covers s limit.at r.0) are.scope
+      (subst (λ (at : List (List ℕ)). covers are.place.scope at name ≡ covers are.place.scope at r.0) are.at (r.2 are.place own)) in (
         r.0,
         r.1,
         (covers-Decides limit.scope limit.at r.0).0 (sym same ∙ (covers-Decides limit.scope limit.at name).1 covered),
         λ rule in'. r.2 (place_of rule) (subst (λ (l : List Rule). Contains l (place_of rule)) (sym are.are) (Contains-append_left (map place_of rules) (are.place ∷ []) (place_of rule) (in_map place_of rules rule in'))),
       );
 }
+
+pub limit_found : {E : Type 0} (rules : List Rule) (limit : Limit) (places : List Rule) (found : Result (Vec (List (List ℕ)) Global) E) → ArePlaces rules limit places → IfOk found (λ names'. Represent places names'.items) → IfOk found (λ names'. RepresentLimit rules limit names'.items)
+limit_found rules limit places (Ok names') are rep = limit_names rules limit places names'.items are rep
+limit_found rules limit places (Err e) are rep = tt
 
 -- what is granted beyond a limit is against it
 pub excess_not : (rules : List Rule) (limit : Limit) (excess : Excess) → IsExcess rules limit excess → ¬ IsKept rules limit

@@ -24,6 +24,11 @@ use Rattle.policy_tools.specs.ExpectationLines.{is_blank, begins_comment, lines_
 
 -- ---- words
 
+-- whether a part of a line begins a comment
+abbrev pub is_comment : List ℕ → Bool
+is_comment [] = false
+is_comment (o ∷ text) = begins_comment o
+
 -- the words among the parts between blanks, up to a comment
 abbrev pub words_among : List (List ℕ) → List (List ℕ)
 words_among [] = []
@@ -87,17 +92,20 @@ one_in read fault word = if bytes_eq word (codes "*") then Ok None else (or_faul
 abbrev pub place_of : List ℕ → Option Scope
 place_of word = find (λ scope. bytes_eq (place_word scope) word) (Name ∷ Subtree ∷ Below ∷ [])
 
--- the callers and, after `may`, an action, a type, a place and a name
+-- callers, an action, a type, a place and a name
+abbrev pub limit_by : List (List ℕ) → List ℕ → List ℕ → List ℕ → List ℕ → Result Limit ExpectationFault
+limit_by callers action record_type place name = do
+  cs ← listed_in callers
+  acts ← one_in action_of NoAction action
+  ts ← one_in type_of TypeNotKept record_type
+  scope ← or_fault (place_of place) Form
+  at ← of_names (absolute_name name)
+  Ok (record { callers = cs; actions = acts; types = ts; scope = scope; at = at })
+
+-- callers and, after `may`, the others
 abbrev pub limit_of : List (List ℕ) → List (List ℕ) → Result Limit ExpectationFault
 limit_of callers (may ∷ action ∷ record_type ∷ place ∷ name ∷ []) =
-    if bytes_eq may (codes "may") then (do
-      cs ← listed_in callers
-      as ← one_in action_of NoAction action
-      ts ← one_in type_of TypeNotKept record_type
-      scope ← or_fault (place_of place) Form
-      at ← of_names (absolute_name name)
-      Ok (record { callers = cs; actions = as; types = ts; scope = scope; at = at }))
-    else Err Form
+    if bytes_eq may (codes "may") then limit_by callers action record_type place name else Err Form
 limit_of callers words = Err Form
 
 -- callers, and five words at the end

@@ -1,7 +1,6 @@
 //! Callers, as a list.
 
-ghost use Rattle.std.specs.Prelude.{◌≡◌, ℕ, List, bytes_eq};
-ghost use Rattle.std.specs.List.{list_any};
+ghost use Rattle.std.specs.Prelude.{◌≡◌, ◌<◌, ◌^◌, ℕ, List, length};
 
 use grant_policy::Identifier;
 use std::marker::Model;
@@ -28,17 +27,9 @@ impl CallerList {
 
     /// The callers, in order.
     pub fn as_slice(&self) -> &[Identifier]
-        ensures { result.now ≡ self.now }
+        ensures callers { result.now ≡ self.now }
+        ensures len { length self.now < 2 ^ 64 }
     {
         &self.callers
-    }
-
-    /// Whether a caller is one of them.
-    pub fn include(&self, caller: &Identifier) -> bool
-        ensures { result ≡ list_any (λ other. bytes_eq other caller.now) self.now }
-    {
-        self.callers
-            .iter()
-            .any(|other| other.as_bytes() == caller.as_bytes())
     }
 }

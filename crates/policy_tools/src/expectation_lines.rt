@@ -9,7 +9,7 @@ ghost use Rattle.policy_tools.specs.declared.expectation_lines.ExpectationLine.{
 ghost use Rattle.policy_tools.specs.declared.expectation_fault.ExpectationFault.TheVariants.{Form, NoCaller, TypeNotKept, NoAction, NoRule};
 ghost use Rattle.policy_tools.specs.ExpectationFaults.{Reads, ReadsText, or_fault, of_names};
 ghost use Rattle.policy_tools.specs.ExpectationLines.{AreExpectations, is_blank, lines_of, place_word};
-ghost use Rattle.policy_tools.specs.ExpectationReading.{words_of, words_among, parts_of, rule_in, decision_in, listable_of, callers_in, is_nobody, listed_in, one_in, place_of, limit_of, limit_in, expectation_in, row_of, expectations_from, expectations_of};
+ghost use Rattle.policy_tools.specs.ExpectationReading.{words_of, words_among, is_comment, parts_of, rule_in, decision_in, listable_of, callers_in, is_nobody, listed_in, one_in, place_of, limit_by, limit_of, limit_in, expectation_in, row_of, expectations_from, expectations_of};
 
 use crate::caller_list::CallerList;
 use crate::expectation::{Expectation, ExpectedDecision, Limit};
@@ -48,16 +48,27 @@ fn lines_of(alloc: Global, text: &[u8]) -> Result<Vec<&[u8]>, AllocError>
     text.split(|octet| *octet == b'\n').collect(alloc)
 }
 
+/// Whether a part begins a comment.
+fn is_comment(part: &[u8]) -> bool
+    ensures { result ≡ is_comment part.now }
+{
+    match part {
+        [octet, ..] => *octet == b'#' || *octet == b';',
+        [] => false,
+    }
+}
+
 /// The words among parts, up to a comment. The only error is out of memory.
 fn words_among<'a>(alloc: Global, parts: &[&'a [u8]]) -> Result<Vec<&'a [u8]>, AllocError>
     ensures { IfOk result (λ words. map (λ word. word.now) words.items ≡ words_among (map (λ part. part.now) parts.now)) }
 {
     let mut words = Vec::new(alloc);
     for part in parts {
-        match *part {
-            [] => {}
-            [b'#' | b';', ..] => return Ok(words),
-            word => words.push(word)?,
+        if is_comment(part) {
+            return Ok(words);
+        }
+        if !part.is_empty() {
+            words.push(*part)?;
         }
     }
     Ok(words)
@@ -249,7 +260,31 @@ fn read_place(word: &[u8]) -> Result<Scope, ExpectationFault>
     }
 }
 
-/// Callers and, after `may`, an action, a type, a place and a name.
+/// The words of a limit.
+#[derive(Clone, Copy)]
+struct LimitWords<'a> {
+    callers: &'a [&'a [u8]],
+    action: &'a [u8],
+    record_type: &'a [u8],
+    place: &'a [u8],
+    name: &'a [u8],
+}
+
+/// Callers, an action, a type, a place and a name.
+fn read_limit_by(alloc: Global, words: LimitWords<'_>) -> Result<Limit, ExpectationFault>
+    ensures { Reads (λ limit. limit) result
+        (limit_by (map (λ word. word.now) words.entry.callers.now) words.entry.action.now words.entry.record_type.now words.entry.place.now words.entry.name.now) }
+{
+    Ok(Limit {
+        callers: read_list(alloc, words.callers)?,
+        actions: read_actions(alloc, words.action)?,
+        types: read_types(alloc, words.record_type)?,
+        scope: read_place(words.place)?,
+        at: read_name(alloc, words.name)?,
+    })
+}
+
+/// Callers and, after `may`, the others.
 fn read_limit_of(
     alloc: Global,
     callers: &[&[u8]],
@@ -257,19 +292,19 @@ fn read_limit_of(
 ) -> Result<Limit, ExpectationFault>
     ensures { Reads (λ limit. limit) result (limit_of (map (λ word. word.now) callers.now) (map (λ word. word.now) words.now)) }
 {
-    let [may, action, record_type, place, name] = words else {
-        return Err(ExpectationFault::Form);
-    };
-    if *may != b"may".as_slice() {
-        return Err(ExpectationFault::Form);
+    match words {
+        [may, action, record_type, place, name] if *may == b"may".as_slice() => {
+            let words = LimitWords {
+                callers,
+                action,
+                record_type,
+                place,
+                name,
+            };
+            read_limit_by(alloc, words)
+        }
+        _ => Err(ExpectationFault::Form),
     }
-    Ok(Limit {
-        callers: read_list(alloc, callers)?,
-        actions: read_actions(alloc, action)?,
-        types: read_types(alloc, record_type)?,
-        scope: read_place(place)?,
-        at: read_name(alloc, name)?,
-    })
 }
 
 /// Callers, and the five words at the end.

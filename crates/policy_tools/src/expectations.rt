@@ -1,7 +1,8 @@
 //! Whether a policy is as expected.
 
-ghost use Rattle.std.specs.Prelude.{◌≡◌, ◌↔◌, None, IfOk, IfSome, IsTrue, MatchOption};
+ghost use Rattle.std.specs.Prelude.{◌≡◌, ◌↔◌, Some, None, IfOk, IfSome, IsTrue, MatchOption};
 ghost use Rattle.grant_policy.specs.Decisions.{verdict_of};
+ghost use Rattle.policy_tools.specs.declared.expectations.Counterexample.TheVariants.{Decided, Granted};
 ghost use Rattle.policy_tools.specs.Expectations.{Holds, IsAsExpected, IsCounterexample, decided_of};
 
 use crate::expectation::{Expectation, ExpectedDecision};
@@ -42,8 +43,28 @@ fn example_of<'a>(
     ensures { IfOk result (λ found. MatchOption found (Holds policy.now expectation.now) (IsCounterexample policy.now expectation.now)) }
 {
     match expectation {
-        Expectation::Decides(expected) => Ok(other_decision(policy, expected).map(Counterexample::Decided)),
-        Expectation::Keeps(limit) => Ok(excess_by(alloc, policy.rules(), limit)?.map(Counterexample::Granted)),
+        Expectation::Decides(expected) => Ok(as_decided(other_decision(policy, expected))),
+        Expectation::Keeps(limit) => Ok(as_granted(excess_by(alloc, policy.rules(), limit)?)),
+    }
+}
+
+/// A decision as a counterexample.
+fn as_decided(found: Option<Decision<'_>>) -> Option<Counterexample<'_>>
+    ensures { MatchOption found.entry (result ≡ None) (λ decision. result ≡ Some (Decided decision)) }
+{
+    match found {
+        Some(decision) => Some(Counterexample::Decided(decision)),
+        None => None,
+    }
+}
+
+/// What is granted beyond a limit, as a counterexample.
+fn as_granted<'a>(found: Option<Excess>) -> Option<Counterexample<'a>>
+    ensures { MatchOption found (result ≡ None) (λ excess. result ≡ Some (Granted excess)) }
+{
+    match found {
+        Some(excess) => Some(Counterexample::Granted(excess)),
+        None => None,
     }
 }
 

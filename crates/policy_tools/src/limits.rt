@@ -138,8 +138,9 @@ fn excess_by_entries(
     requires entries { AreEntries rules.now name.now (length rules.now) entries.now }
     ensures { IfOk result (λ found. MatchOption found (IsKeptAt rules.now limit.now name.now) (IsExcess rules.now limit.now)) }
 {
+    let listed = limit.callers.as_slice();
     let wanted = Points::among(&limit.types, &limit.actions);
-    let Some(right) = unlisted_right(entries, &limit.callers, wanted) else {
+    let Some(right) = unlisted_right(entries, listed, wanted) else {
         return Ok(None);
     };
     let caller = named(alloc, &rules[right.rule].callers)?;
