@@ -1,17 +1,14 @@
 -- Whether a policy is as expected.
-use Rattle.std.proofs.Common.{◌≡◌, ◌≢◌, ◌↔◌, ℕ, List, Option, Some, None, Result, Ok, Err, IfOk, refl, sym, subst}
+use Rattle.std.proofs.Common.{◌≡◌, ◌↔◌, List, Option, Some, None, Result, Ok, Err, IfOk, refl, sym, subst}
 use Rattle.std.specs.Prelude.{MatchOption}
-use Rattle.grant_policy.specs.declared.decision.Decision.{Decision}
 use Rattle.grant_policy.specs.declared.rule.Rule.{Rule}
-use Rattle.grant_policy.specs.Decisions.{Verdict}
-use Rattle.policy_tools.specs.declared.expectation.ExpectedDecision.{ExpectedDecision}
 use Rattle.policy_tools.specs.declared.expectation.Expectation.{Expectation}
 use Rattle.policy_tools.specs.declared.expectation.Expectation.TheVariants.{Decides, Keeps}
 use Rattle.policy_tools.specs.declared.expectation.Limit.{Limit}
 use Rattle.policy_tools.specs.declared.expectations.Counterexample.{Counterexample}
 use Rattle.policy_tools.specs.declared.expectations.Counterexample.TheVariants.{Decided, Granted}
 use Rattle.policy_tools.specs.declared.limits.Excess.{Excess}
-use Rattle.policy_tools.specs.Expectations.{Holds, IsAsExpected, IsCounterexample, decided_of}
+use Rattle.policy_tools.specs.Expectations.{Holds, IsAsExpected, IsCounterexample}
 use Rattle.policy_tools.specs.Limits.{IsKept, IsExcess}
 use Rattle.policy_tools.proofs.LimitLemmas.{excess_not}
 

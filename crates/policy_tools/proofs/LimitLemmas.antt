@@ -1,5 +1,5 @@
 -- Whether a limit is kept, by the entries at names that represent its names.
-use Rattle.std.proofs.Common.{◌≡◌, ◌≢◌, ℕ, ◌+◌, ◌<◌, ◌≤◌, ◌^◌, Bool, true, false, ◌&&◌, List, [], ◌∷◌, ◌++◌, length, map, get_or, take, Option, Some, None, Result, Ok, Err, IfOk, Vec, Global, refl, sym, ap, ◌∙◌, subst, arith, ⊎_elim, length-append}
+use Rattle.std.proofs.Common.{◌≡◌, ℕ, ◌+◌, ◌<◌, ◌≤◌, ◌^◌, true, false, List, [], ◌∷◌, ◌++◌, length, map, get_or, take, Option, Some, None, Result, Ok, Err, IfOk, Vec, Global, refl, sym, ap, ◌∙◌, subst, arith, ⊎_elim, length-append}
 use Rattle.std.specs.Prelude.{slice_get, bytes_eq}
 use Rattle.std.specs.List.{Contains, list_any}
 use Rattle.std.proofs.lemmas.Bool.{false≢true, false_from_ne_true, and_from}
@@ -15,9 +15,7 @@ use Rattle.grant_policy.specs.declared.callers.Callers.{Callers}
 use Rattle.grant_policy.specs.declared.callers.Callers.TheVariants.{Every, One}
 use Rattle.grant_policy.specs.declared.rule.Rule.{Rule}
 use Rattle.grant_policy.specs.declared.scope.Scope.{Scope}
-use Rattle.grant_policy.specs.Decisions.{decision}
 use Rattle.grant_policy.specs.Identifiers.{IsIdentifier}
-use Rattle.grant_policy.specs.Isolated.{question, IsGranted}
 use Rattle.grant_policy.specs.Rules.{has, is_of, same_type, same_action}
 use Rattle.grant_policy.specs.Scopes.{Covers, covers}
 use Rattle.policy_tools.specs.declared.claims.Entry.{Entry}
@@ -26,9 +24,9 @@ use Rattle.policy_tools.specs.declared.exposure.Right.{Right}
 use Rattle.policy_tools.specs.declared.limits.Excess.{Excess}
 use Rattle.policy_tools.specs.Changes.{place_of}
 use Rattle.policy_tools.specs.Claims.{AreEntries}
-use Rattle.policy_tools.specs.EntryRights.{IsGrant, GrantsUnlisted, are_listed}
-use Rattle.policy_tools.specs.Exposures.{IsGrantedBy, IsUnnamed, named_of}
-use Rattle.policy_tools.specs.Limits.{IsLimited, IsKeptAt, IsKept, IsUnknown, UnknownHave, UnlistedHas, IsExcess, RepresentLimit, ArePlaces}
+use Rattle.policy_tools.specs.EntryRights.{GrantsUnlisted, are_listed}
+use Rattle.policy_tools.specs.Exposures.{IsGrantedBy, named_of}
+use Rattle.policy_tools.specs.Limits.{IsLimited, IsKeptAt, IsKept, IsUnknown, UnlistedHas, IsExcess, RepresentLimit, ArePlaces}
 use Rattle.policy_tools.specs.Points.{has_point, names_pair}
 use Rattle.policy_tools.specs.Representatives.{AreAlike, Represent}
 use Rattle.grant_policy.proofs.DecisionLaws.{same_Some}

@@ -4,8 +4,6 @@ use Rattle.std.specs.List.{AllByRecursion, slice_split}
 use Rattle.dns_names.specs.Labels.{IsName}
 use Rattle.dns_names.specs.Spelling.{SpellsAbsolute}
 use Rattle.dns_data.specs.Types.{IsCalled}
-use Rattle.dns_data.specs.declared.record_type.RecordType.{RecordType}
-use Rattle.grant_policy.specs.declared.action.Action.{Action}
 use Rattle.grant_policy.specs.declared.effect.Effect.{Effect}
 use Rattle.grant_policy.specs.declared.effect.Effect.TheVariants.{Grant, Deny}
 use Rattle.grant_policy.specs.declared.scope.Scope.{Scope}

@@ -1,10 +1,8 @@
 -- The expectations of a text, or its first refusal.
-use Rattle.std.specs.Prelude.{ℕ, ◌+◌, ◌-◌, List, [], ◌∷◌, ◌++◌, length, take, drop, Bool, true, false, if◌then◌else◌, Option, Some, None, option_map, Result, Ok, Err, codes, bytes_eq}
+use Rattle.std.specs.Prelude.{ℕ, ◌+◌, ◌-◌, List, [], ◌∷◌, ◌++◌, length, take, drop, Bool, false, if◌then◌else◌, Option, Some, None, Result, Ok, Err, codes, bytes_eq}
 use Rattle.std.specs.List.{find, slice_split}
 use Rattle.std.specs.Option.{option_to_list}
 use Rattle.dns_names.specs.Reading.{absolute_name}
-use Rattle.dns_data.specs.declared.record_type.RecordType.{RecordType}
-use Rattle.grant_policy.specs.declared.action.Action.{Action}
 use Rattle.grant_policy.specs.declared.effect.Effect.{Effect}
 use Rattle.grant_policy.specs.declared.effect.Effect.TheVariants.{Grant, Deny}
 use Rattle.grant_policy.specs.declared.scope.Scope.{Scope}

@@ -1,5 +1,5 @@
 -- What is expected of a policy, and whether it is so.
-use Rattle.std.specs.Prelude.{◌≡◌, ℕ, List, Option, IfSome}
+use Rattle.std.specs.Prelude.{◌≡◌, List, IfSome}
 use Rattle.grant_policy.specs.declared.rule.Rule.{Rule}
 use Rattle.grant_policy.specs.Decisions.{Verdict, decision, decider, is_granted, verdict_of}
 use Rattle.grant_policy.specs.Isolated.{question}

@@ -8,7 +8,7 @@ use Rattle.grant_policy.specs.declared.rule.Rule.{Rule}
 use Rattle.grant_policy.specs.Identifiers.{IsIdentifier}
 use Rattle.grant_policy.specs.Isolated.{IsGranted}
 use Rattle.grant_policy.specs.Rules.{Has}
-use Rattle.grant_policy.specs.Scopes.{Covers, covers}
+use Rattle.grant_policy.specs.Scopes.{Covers}
 use Rattle.policy_tools.specs.declared.expectation.Limit.{Limit}
 use Rattle.policy_tools.specs.declared.exposure.Right.{Right}
 use Rattle.policy_tools.specs.declared.limits.Excess.{Excess}

@@ -1,4 +1,4 @@
-use Rattle.std.proofs.Common.{length, sym, ap, ◌∙◌, arith}
+use Rattle.std.proofs.Common.{sym, ap, ◌∙◌, arith}
 use Rattle.grant_policy.specs.declared.rule.Rule.{Rule}
 use Rattle.policy_tools.specs.Exposures.{named_of}
 use Rattle.policy_tools.proofs.ClaimLemmas.{item_at}
