@@ -1,7 +1,7 @@
 -- A caller of a kind: one that is named, or one that no rule names.
-use Rattle.std.proofs.Common.{◌≡◌, ℕ, zero, suc, ◌/◌, ◌%◌, ◌<◌, ◌≤◌, ◌⊎◌, inl, inr, Bool, true, false, ◌&&◌, cond, List, [], ◌∷◌, ◌+◌, ◌*◌, length, Some, None, refl, sym, ap, ◌∙◌, subst, ⊎_elim, arith}
+use Rattle.std.proofs.Common.{◌≡◌, ℕ, zero, suc, ◌/◌, ◌%◌, ◌<◌, ◌≤◌, ◌⊎◌, inl, inr, Bool, true, false, cond, List, [], ◌∷◌, ◌+◌, ◌*◌, length, Some, None, refl, sym, ap, ◌∙◌, subst, ⊎_elim, arith}
 use Rattle.std.specs.Prelude.{bytes_eq}
-use Rattle.std.specs.List.{Contains, list_any}
+use Rattle.std.specs.List.{Contains, list_all, list_any}
 use Rattle.std.proofs.lemmas.Bool.{cases_Bool, cases_lt, false≢true, and_from}
 use Rattle.std.proofs.lemmas.Bool.Decides.{nat_tests}
 use Rattle.std.proofs.lemmas.List.Folds.{Any-from_list_any, list_any_at}
@@ -20,28 +20,42 @@ use Rattle.policy_tools.proofs.FreeNameLemmas.{at_least, HasNumber, rank, rank-l
 letter_octet : (n : ℕ) → n < 36 → is_identifier_octet (letter_of n) ≡ true
 letter_octet n h = grind (arith, nat_tests)
 
--- the identifier of a number: three letters and digits
-abbrev triple_of : ℕ → List ℕ
-triple_of n = letter_of (n / 36 / 36) ∷ letter_of (n / 36 % 36) ∷ letter_of (n % 36) ∷ []
+-- how many identifiers of so many letters and digits there are
+abbrev power : ℕ → ℕ
+power zero = 1
+power (suc k) = 36 * power k
+
+-- the identifier of a number, so many letters and digits
+abbrev letters_of : ℕ → ℕ → List ℕ
+letters_of zero n = []
+letters_of (suc k) n = letter_of (n % 36) ∷ letters_of k (n / 36)
 
 abbrev number_of : List ℕ → ℕ
-number_of (a ∷ b ∷ c ∷ rest) = rank a * 1296 + rank b * 36 + rank c
-number_of _ = 0
+number_of [] = 0
+number_of (a ∷ rest) = rank a + 36 * number_of rest
 
-number_of-triple_of : (n : ℕ) → n < 46656 → number_of (triple_of n) ≡ n
-number_of-triple_of n h = omega (arith, rank-letter_of (n / 36 / 36) (omega arith), rank-letter_of (n / 36 % 36) (omega arith), rank-letter_of (n % 36) (omega arith))
+number_of-letters_of : (k n : ℕ) → n < power k → number_of (letters_of k n) ≡ n
+number_of-letters_of zero n h = omega (arith, h)
+number_of-letters_of (suc k) n h = omega (arith, rank-letter_of (n % 36) (omega arith), number_of-letters_of k (n / 36) (omega (arith, h)))
 
-three_octets : (a b c : ℕ) → is_identifier_octet a ≡ true → is_identifier_octet b ≡ true → is_identifier_octet c ≡ true → (is_identifier_octet a && (is_identifier_octet b && (is_identifier_octet c && true))) ≡ true
-three_octets a b c ia ib ic =
-    and_from (is_identifier_octet a) (is_identifier_octet b && (is_identifier_octet c && true)) ia
-    (and_from (is_identifier_octet b) (is_identifier_octet c && true) ib (and_from (is_identifier_octet c) true ic refl))
+letters_octets : (k n : ℕ) → list_all is_identifier_octet (letters_of k n) ≡ true
+letters_octets zero n = refl
+letters_octets (suc k) n =
+    and_from (is_identifier_octet (letter_of (n % 36))) (list_all is_identifier_octet (letters_of k (n / 36))) (letter_octet (n % 36) (omega arith)) (letters_octets k (n / 36))
 
-triple_identifier : (n : ℕ) → n < 46656 → IsIdentifier (triple_of n)
-triple_identifier n h = record {
-  octets = three_octets (letter_of (n / 36 / 36)) (letter_of (n / 36 % 36)) (letter_of (n % 36)) (letter_octet (n / 36 / 36) (omega arith)) (letter_octet (n / 36 % 36) (omega arith)) (letter_octet (n % 36) (omega arith));
-  not_empty = omega arith;
-  short = omega arith;
-}
+letters_length : (k n : ℕ) → length (letters_of k n) ≡ k
+letters_length zero n = refl
+letters_length (suc k) n = ap suc (letters_length k (n / 36))
+
+-- that of 13, which are more than memory has octets
+abbrev free_of : ℕ → List ℕ
+free_of n = letters_of 13 n
+
+free_bound : (n : ℕ) → n < 36893488147419103232 → n < power 13
+free_bound n h = let e : power 13 ≡ 170581728179578208256 = refl in omega (arith, h, e)
+
+free_is : (n : ℕ) → n < 36893488147419103232 → IsIdentifier (free_of n)
+free_is n h = record { octets = letters_octets 13 n; not_empty = omega (arith, letters_length 13 n); short = omega (arith, letters_length 13 n) }
 
 -- the identifier that callers are, where it is one
 abbrev pub names : List ℕ → Callers → Bool
@@ -52,9 +66,9 @@ abbrev number_by : Callers → ℕ
 number_by Every = 0
 number_by (One identifier) = number_of identifier
 
-named_number : (callers : Callers) (n : ℕ) → n < 46656 → names (triple_of n) callers ≡ true → number_by callers ≡ n
+named_number : (callers : Callers) (n : ℕ) → n < power 13 → names (free_of n) callers ≡ true → number_by callers ≡ n
 named_number Every n h e = absurd (false≢true e)
-named_number (One identifier) n h e = ap number_of ((bytes_eq-Decides identifier (triple_of n)).0 e) ∙ number_of-triple_of n h
+named_number (One identifier) n h e = ap number_of ((bytes_eq-Decides identifier (free_of n)).0 e) ∙ number_of-letters_of 13 n h
 
 search_to : (p : ℕ → Bool) (n : ℕ) → ((k : ℕ) × (k < n) × (p k ≡ false)) ⊎ ((k : ℕ) → k < n → p k ≡ true)
 search_to p zero = inr (λ k lt. absurd (omega arith))
@@ -69,19 +83,24 @@ search_to p (suc n) =
 
 -- whether one of these speaks of the identifier of this number alone
 abbrev is_named : {X : Type 0} → (X → Callers) → List X → ℕ → Bool
-is_named of xs n = list_any (λ x. names (triple_of n) (of x)) xs
+is_named of xs n = list_any (λ x. names (free_of n) (of x)) xs
 
-has_number : {X : Type 0} (of : X → Callers) (xs : List X) (n : ℕ) → n < 46656 → is_named of xs n ≡ true → HasNumber (λ (x : X). number_by (of x)) xs n
+has_number : {X : Type 0} (of : X → Callers) (xs : List X) (n : ℕ) → n < power 13 → is_named of xs n ≡ true → HasNumber (λ (x : X). number_by (of x)) xs n
 has_number {X} of xs n h e =
-    let a = Any-from_list_any (λ (x : X). names (triple_of n) (of x)) xs e in
+    let a = Any-from_list_any (λ (x : X). names (free_of n) (of x)) xs e in
     (a.1, (a.0, a.2, a.3), named_number (of a.1) n h a.4)
 
-unnamed : {X : Type 0} (of : X → Callers) (xs : List X) → length xs ≤ 2049 → (n : ℕ) × (n < 2050) × (is_named of xs n ≡ false)
-unnamed {X} of xs few =
+unnamed_below : {X : Type 0} (of : X → Callers) (xs : List X) (many : ℕ) → many ≡ length xs + 1 → many ≤ 36893488147419103232 → (n : ℕ) × (n < many) × (is_named of xs n ≡ false)
+unnamed_below {X} of xs many e few =
     ⊎_elim
-    (λ (found : (n : ℕ) × (n < 2050) × (is_named of xs n ≡ false)). found)
-    (λ (all : (n : ℕ) → n < 2050 → is_named of xs n ≡ true). absurd (omega (arith, at_least (λ (x : X). number_by (of x)) xs 2050 (λ n lt. has_number of xs n (omega arith) (all n lt)))))
-    (search_to (is_named of xs) 2050)
+    (λ (found : (n : ℕ) × (n < many) × (is_named of xs n ≡ false)). found)
+    (λ (all : (n : ℕ) → n < many → is_named of xs n ≡ true). absurd (omega (arith, e, at_least (λ (x : X). number_by (of x)) xs many (λ n lt. has_number of xs n (free_bound n (omega (arith, lt, few))) (all n lt)))))
+    (search_to (is_named of xs) many)
+
+unnamed : {X : Type 0} (of : X → Callers) (xs : List X) → length xs < 36893488147419103232 → (n : ℕ) × (n < 36893488147419103232) × (is_named of xs n ≡ false)
+unnamed of xs few =
+    let found = unnamed_below of xs (length xs + 1) refl (omega (arith, few)) in
+    (found.0, omega (arith, found.1, few), found.2)
 
 -- ---- a caller of a kind
 
@@ -105,18 +124,18 @@ pub represented : (rules : List Rule) (callers : Callers) → length rules ≤ 1
 represented rules (One identifier) few are = (identifier, record { identifier = are; alike = λ rule in'. refl })
 represented rules Every few are =
     let free = unnamed (λ (rule : Rule). rule.callers) rules (omega arith) in (
-      triple_of free.0,
+      free_of free.0,
       record {
-        identifier = triple_identifier free.0 (omega (arith, free.1));
-        alike = λ rule in'. not_named rule.callers (triple_of free.0) (passes_not (λ (r : Rule). names (triple_of free.0) r.callers) rules rule free.2 in');
+        identifier = free_is free.0 free.1;
+        alike = λ rule in'. not_named rule.callers (free_of free.0) (passes_not (λ (r : Rule). names (free_of free.0) r.callers) rules rule free.2 in');
       },
     )
 
 -- an identifier of which none of these speaks alone
-pub free_identifier : (all : List Callers) → length all ≤ 2049 → (identifier : List ℕ) × IsIdentifier identifier × ((callers : Callers) → Contains all callers → names identifier callers ≡ false)
+pub free_identifier : (all : List Callers) → length all < 36893488147419103232 → (identifier : List ℕ) × IsIdentifier identifier × ((callers : Callers) → Contains all callers → names identifier callers ≡ false)
 free_identifier all few =
     let free = unnamed (λ (callers : Callers). callers) all few in
-    (triple_of free.0, triple_identifier free.0 (omega (arith, free.1)), λ callers in'. passes_not (names (triple_of free.0)) all callers free.2 in')
+    (free_of free.0, free_is free.0 free.1, λ callers in'. passes_not (names (free_of free.0)) all callers free.2 in')
 
 -- ---- callers of whom two rules speak
 

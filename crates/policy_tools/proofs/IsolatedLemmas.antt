@@ -31,7 +31,7 @@ use Rattle.policy_tools.specs.Wanted.{changes}
 use Rattle.policy_tools.specs.Points.{names_point}
 use Rattle.policy_tools.specs.Taking.{includes, speaks}
 use Rattle.policy_tools.specs.Claims.{is_taken, IsEntry, AreEntries}
-use Rattle.policy_tools.specs.EntryRights.{IsWanted, GrantsAmong, GrantsOthers}
+use Rattle.policy_tools.specs.EntryRights.{IsWanted, IsGrant, GrantsAmong, GrantsOthers}
 use Rattle.grant_policy.specs.Isolated.{question, IsGranted, ShowsRecords, ChangesRecords, IsIsolatedAt, IsIsolated}
 use Rattle.policy_tools.specs.Exposures.{IsGrantedBy, IsUnnamedOther, OtherHas, named_of, SeesSoa, SharesName, IsExposed}
 use Rattle.grant_policy.proofs.WordLemmas.{same_type-Decides}
@@ -45,18 +45,18 @@ use Rattle.policy_tools.proofs.EntryRightLemmas.{NoneAmong, NoneToOthers}
 -- ---- callers
 
 -- a caller of whom a rule speaks is one of those of whom it speaks
-among_self : (callers : Callers) (caller : List ℕ) → is_of callers caller ≡ true → (own : Callers) → includes own callers ≡ true → is_of own caller ≡ true
+pub among_self : (callers : Callers) (caller : List ℕ) → is_of callers caller ≡ true → (own : Callers) → includes own callers ≡ true → is_of own caller ≡ true
 among_self Every caller e own i = every_is_of own caller i
 among_self (One identifier) caller e own i = same_among identifier caller e own i
 
-includes_self : (callers : Callers) → includes callers callers ≡ true
+pub includes_self : (callers : Callers) → includes callers callers ≡ true
 includes_self callers = (shared_by Every callers callers refl).1
 
-unnamed_by : (callers : Callers) (caller : List ℕ) → callers ≢ One caller → names caller callers ≡ false
+pub unnamed_by : (callers : Callers) (caller : List ℕ) → callers ≢ One caller → names caller callers ≡ false
 unnamed_by Every caller other = refl
 unnamed_by (One identifier) caller other = false_from_ne_true (names caller (One identifier)) (λ yes'. other (ap One ((bytes_eq-Decides identifier caller).0 yes')))
 
-not_one : (caller : List ℕ) (callers : Callers) → names caller callers ≡ false → callers ≢ One caller
+pub not_one : (caller : List ℕ) (callers : Callers) → names caller callers ≡ false → callers ≢ One caller
 not_one caller callers none is = both_ways (names caller callers) none (subst (λ (c : Callers). names caller c ≡ true) (sym is) ((bytes_eq-Decides caller caller).1 refl))
 
 -- there is always another identifier that no rule names
@@ -77,12 +77,12 @@ unnamed_other rules caller few =
 -- ---- decisions
 
 -- a rule that grants, and a grant
-granted_by_rule : (rules : List Rule) (caller : List ℕ) (name : List (List ℕ)) (right : Right) → IsGrantedBy rules caller name right → IsGranted rules caller name right.record_type right.action
+pub granted_by_rule : (rules : List Rule) (caller : List ℕ) (name : List (List ℕ)) (right : Right) → IsGrantedBy rules caller name right → IsGranted rules caller name right.record_type right.action
 granted_by_rule rules caller name right g =
     let p = question caller name right.record_type right.action in
     (g.rule.id, decision_one p rules (decision p rules) (decided g.rule) (decision_found p rules) (inl (right.rule, g.rule, g.first, refl)) ∙ ap (λ (e : Effect). effect_by e g.rule.id) g.grants)
 
-rule_of_grant : (rules : List Rule) (caller : List ℕ) (name : List (List ℕ)) (t : RecordType) (a : Action) → IsGranted rules caller name t a → (i : ℕ) × IsGrantedBy rules caller name (record { record_type = t; action = a; rule = i })
+unfoldable pub rule_of_grant : (rules : List Rule) (caller : List ℕ) (name : List (List ℕ)) (t : RecordType) (a : Action) → IsGranted rules caller name t a → (i : ℕ) × IsGrantedBy rules caller name (record { record_type = t; action = a; rule = i })
 rule_of_grant rules caller name t a g =
     let p = question caller name t a in
     let by = grants_by p rules g.0 (subst (λ (v : Verdict). IsDecision p rules v) g.1 (decision_found p rules)) in
@@ -115,15 +115,15 @@ isolated_all rules caller names' all each name is =
 -- ---- grants without a caller
 
 -- the rule of this place grants a right to all these callers
-record GrantsAt (rules : List Rule) (callers : Callers) (name : List (List ℕ)) (right : Right) : Type 0 where
-  rule : Rule
-  at : slice_get rules right.rule ≡ Some rule
-  of : includes rule.callers callers ≡ true
-  grants : rule.effect ≡ Grant
-  says : speaks rule name right.record_type right.action ≡ true
-  untaken : is_taken (take right.rule rules) name callers right.record_type right.action ≡ false
+pub record GrantsAt (rules : List Rule) (callers : Callers) (name : List (List ℕ)) (right : Right) : Type 0 where
+  pub rule : Rule
+  pub at : slice_get rules right.rule ≡ Some rule
+  pub of : includes rule.callers callers ≡ true
+  pub grants : rule.effect ≡ Grant
+  pub says : speaks rule name right.record_type right.action ≡ true
+  pub untaken : is_taken (take right.rule rules) name callers right.record_type right.action ≡ false
 
-granted_at : (rules : List Rule) (callers : Callers) (caller : List ℕ) (name : List (List ℕ)) (right : Right) → ((rule : Rule) → Contains rules rule → is_of rule.callers caller ≡ includes rule.callers callers) → GrantsAt rules callers name right → IsGrantedBy rules caller name right
+pub granted_at : (rules : List Rule) (callers : Callers) (caller : List ℕ) (name : List (List ℕ)) (right : Right) → ((rule : Rule) → Contains rules rule → is_of rule.callers caller ≡ includes rule.callers callers) → GrantsAt rules callers name right → IsGrantedBy rules caller name right
 granted_at rules callers caller name right alike g =
     let t = right.record_type in
     let a = right.action in
@@ -143,13 +143,13 @@ granted_at rules callers caller name right alike g =
       grants = g.grants;
     }
 
-spoken_of : (rules : List Rule) (caller : List ℕ) (name : List (List ℕ)) (right : Right) → (g : IsGrantedBy rules caller name right) → (is_of g.rule.callers caller ≡ true) × (speaks g.rule name right.record_type right.action ≡ true)
+pub spoken_of : (rules : List Rule) (caller : List ℕ) (name : List (List ℕ)) (right : Right) → (g : IsGrantedBy rules caller name right) → (is_of g.rule.callers caller ≡ true) × (speaks g.rule name right.record_type right.action ≡ true)
 spoken_of rules caller name right g =
     let says = speaks g.rule name right.record_type right.action in
     let b = (matches-Decides (question caller name right.record_type right.action) g.rule).1 g.first.matching in
     (fst (is_of g.rule.callers caller) says b, snd (is_of g.rule.callers caller) says b)
 
-at_granted : (rules : List Rule) (callers : Callers) (caller : List ℕ) (name : List (List ℕ)) (right : Right) → ((own : Callers) → includes own callers ≡ true → is_of own caller ≡ true) → (g : IsGrantedBy rules caller name right) → includes g.rule.callers callers ≡ true → GrantsAt rules callers name right
+unfoldable pub at_granted : (rules : List Rule) (callers : Callers) (caller : List ℕ) (name : List (List ℕ)) (right : Right) → ((own : Callers) → includes own callers ≡ true → is_of own caller ≡ true) → (g : IsGrantedBy rules caller name right) → includes g.rule.callers callers ≡ true → GrantsAt rules callers name right
 at_granted rules callers caller name right more g of =
     let t = right.record_type in
     let a = right.action in
@@ -222,14 +222,15 @@ module _ (rules : List Rule) (name : List (List ℕ)) (entries : List Entry) (ar
         };
       }
 
-  others_at : (caller : List ℕ) (e : Entry) (right : Right) → Contains entries e → GrantsOthers caller e right → GrantsAt rules e.claim.rule.now.callers name right
-  others_at caller e right in' g =
+  -- what is left to the rule of an entry is granted by it
+  unfoldable pub left_at : (e : Entry) (wanted : ℕ) (right : Right) → Contains entries e → IsGrant e e.left.bits wanted right → GrantsAt rules e.claim.rule.now.callers name right
+  left_at e wanted right in' g =
       let t = right.record_type in
       let a = right.action in
       let rule = e.claim.rule.now in
       let is = entry_at rules name (length rules) entries are e in' in
       let taken = is_taken (take e.number rules) name rule.callers t a in
-      let both = sym (is.0.left t a) ∙ g.left in
+      let both = sym (is.0.left t a) ∙ g.in_own in
       record {
         rule = rule;
         at = ap (λ (k : ℕ). slice_get rules k) (sym g.number) ∙ is.0.rule;
@@ -239,8 +240,8 @@ module _ (rules : List Rule) (name : List (List ℕ)) (entries : List Entry) (ar
         untaken = ap (λ (k : ℕ). is_taken (take k rules) name rule.callers t a) (sym g.number) ∙ not-true taken (snd (names_point rule t a) (not taken) both);
       }
 
-  at_others : (caller : List ℕ) (callers : Callers) (right : Right) (g : GrantsAt rules callers name right) → g.rule.callers ≡ callers → callers ≢ One caller → changes right.action ≡ true → (e : Entry) × Contains entries e × GrantsOthers caller e right
-  at_others caller callers right g own others change =
+  pub at_left : (callers : Callers) (right : Right) (g : GrantsAt rules callers name right) → g.rule.callers ≡ callers → (e : Entry) × Contains entries e × (e.claim.rule.now.callers ≡ callers) × IsGrant e e.left.bits e.left.bits right
+  at_left callers right g own =
       let t = right.record_type in
       let a = right.action in
       let covered = fst (covers g.rule.scope g.rule.at name) (names_point g.rule t a) g.says in
@@ -250,17 +251,17 @@ module _ (rules : List Rule) (name : List (List ℕ)) (entries : List Entry) (ar
       let rule = e.claim.rule.now in
       let whose : rule.callers ≡ callers = sym (ap (λ (r : Rule). r.callers) f.3) ∙ own in
       let taken = is_taken (take e.number rules) name rule.callers t a in
-      let open' : taken ≡ false = ap (λ (k : ℕ). is_taken (take k rules) name rule.callers t a) f.2 ∙ ap (λ (c : Callers). is_taken (take right.rule rules) name c t a) whose ∙ g.untaken in (
-        e,
-        f.1,
-        record {
-          others = λ only. others (sym whose ∙ only);
-          grants = subst (λ (r : Rule). r.effect ≡ Grant) f.3 g.grants;
-          left = f.4.left t a ∙ and_from (names_point rule t a) (not taken) (subst (λ (r : Rule). names_point r t a ≡ true) f.3 named) (not_from_false taken open');
-          wanted = change;
-          number = f.2;
-        },
-      )
+      let open' : taken ≡ false = ap (λ (k : ℕ). is_taken (take k rules) name rule.callers t a) f.2 ∙ ap (λ (c : Callers). is_taken (take right.rule rules) name c t a) whose ∙ g.untaken in
+      let left = f.4.left t a ∙ and_from (names_point rule t a) (not taken) (subst (λ (r : Rule). names_point r t a ≡ true) f.3 named) (not_from_false taken open') in
+      (e, f.1, whose, record { grants = subst (λ (r : Rule). r.effect ≡ Grant) f.3 g.grants; in_own = left; in_wanted = left; number = f.2 })
+
+  others_at : (caller : List ℕ) (e : Entry) (right : Right) → Contains entries e → GrantsOthers caller e right → GrantsAt rules e.claim.rule.now.callers name right
+  others_at caller e right in' g = left_at e e.left.bits right in' (record { grants = g.grants; in_own = g.left; in_wanted = g.left; number = g.number })
+
+  at_others : (caller : List ℕ) (callers : Callers) (right : Right) (g : GrantsAt rules callers name right) → g.rule.callers ≡ callers → callers ≢ One caller → changes right.action ≡ true → (e : Entry) × Contains entries e × GrantsOthers caller e right
+  at_others caller callers right g own others change =
+      let f = at_left callers right g own in
+      (f.0, f.1, record { others = λ only. others (sym f.2 ∙ only); grants = f.3.grants; left = f.3.in_own; wanted = change; number = f.3.number })
 
 -- ---- actions
 
@@ -351,7 +352,7 @@ module _ (rules : List Rule) (caller : List ℕ) (name : List (List ℕ)) (entri
   other_has (One identifier) right few others g = (λ same. others (ap One same), granted_at rules (One identifier) identifier name right (λ rule in'. refl) g)
 
   pub name_shared : (n : ℕ) (own theirs : Right) (rule : Rule) (other : Option (List ℕ)) → length rules ≤ 1024 → IsName name → slice_get rules theirs.rule ≡ Some rule → other ≡ named_of rule.callers → GrantsAmong (One caller) entries n own → (e : Entry) × Contains entries e × GrantsOthers caller e theirs → SharesName rules caller name own other theirs
-  unfolding others_at
+  unfolding others_at left_at
   name_shared n own theirs rule other few is at whose g (e, in', theirs') =
       let granted = others_at rules name entries are caller e theirs in' theirs' in
       let same : e.claim.rule.now ≡ rule = same_Some e.claim.rule.now rule (sym granted.at ∙ at) in

@@ -11,3 +11,8 @@ mod NameRightLemmas
 mod NameGroupLemmas
 mod GroupRowLemmas
 mod ChangeLemmas
+mod LimitLemmas
+mod ExpectationLemmas
+mod WordLaws
+mod ReadingLemmas
+mod ExpectationLaws

@@ -1,7 +1,8 @@
 -- What entries grant a caller, and what they grant others.
-use Rattle.std.specs.Prelude.{◌≡◌, ◌≢◌, ℕ, ◌<◌, List, take, true, false, Some, slice_get}
+use Rattle.std.specs.Prelude.{◌≡◌, ◌≢◌, ℕ, ◌<◌, List, take, Bool, true, false, Some, slice_get, bytes_eq}
+use Rattle.std.specs.List.{list_any}
 use Rattle.grant_policy.specs.declared.callers.Callers.{Callers}
-use Rattle.grant_policy.specs.declared.callers.Callers.TheVariants.{One}
+use Rattle.grant_policy.specs.declared.callers.Callers.TheVariants.{Every, One}
 use Rattle.policy_tools.specs.declared.claims.Entry.{Entry}
 use Rattle.grant_policy.specs.declared.effect.Effect.TheVariants.{Grant}
 use Rattle.policy_tools.specs.declared.exposure.Right.{Right}
@@ -40,6 +41,16 @@ pub record GrantsAmong (callers : Callers) (entries : List Entry) (n : ℕ) (rig
   pub entry : Entry
   pub at : slice_get entries place ≡ Some entry
   pub grants : GrantsBehind callers (take place entries) entry right
+
+-- whether a list has the caller of whom alone a rule speaks
+abbrev pub are_listed : List (List ℕ) → Callers → Bool
+are_listed listed Every = false
+are_listed listed (One identifier) = list_any (λ other. bytes_eq other identifier) listed
+
+-- the rule of an entry grants one of some pairs to others than those of a list
+pub record GrantsUnlisted (listed : List (List ℕ)) (wanted : ℕ) (e : Entry) (right : Right) : Type 0 where
+  pub unlisted : are_listed listed e.claim.rule.now.callers ≡ false
+  pub grant : IsGrant e e.left.bits wanted right
 
 -- the rule of an entry grants others than the caller a change of records
 pub record GrantsOthers (caller : List ℕ) (e : Entry) (right : Right) : Type 0 where

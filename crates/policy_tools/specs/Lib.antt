@@ -10,3 +10,8 @@ pub mod Exposures
 pub mod NameRights
 pub mod NameGroups
 pub mod Changes
+pub mod Limits
+pub mod Expectations
+pub mod ExpectationFaults
+pub mod ExpectationLines
+pub mod ExpectationReading

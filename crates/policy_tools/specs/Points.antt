@@ -1,5 +1,5 @@
 -- Pairs of a record type and an action, by number: five for each type, one for each action.
-use Rattle.std.specs.Prelude.{ℕ, ◌+◌, ◌*◌, ◌/◌, ◌%◌, Bool, true, ◌&&◌, ◌==◌, ◌≡◌, ◌≢◌, length, slice_index_or}
+use Rattle.std.specs.Prelude.{ℕ, ◌+◌, ◌*◌, ◌/◌, ◌%◌, List, Option, Bool, true, ◌&&◌, ◌==◌, ◌≡◌, ◌≢◌, length, slice_index_or}
 use Rattle.std.specs.Int.{bit_at}
 use Rattle.dns_data.specs.declared.record_type.RecordType.{RecordType}
 use Rattle.dns_data.specs.declared.record_type.RecordType.TheVariants.{A}
@@ -27,9 +27,13 @@ action_at number = slice_index_or all_actions (number % 5) actions.List
 abbrev pub has_point : ℕ → RecordType → Action → Bool
 has_point bits t a = bit_at bits (pair_number t a) == 1
 
+-- whether some types and some actions have it
+abbrev pub names_pair : Option (List RecordType) → Option (List Action) → RecordType → Action → Bool
+names_pair types actions t a = has same_type types t && has same_action actions a
+
 -- whether a rule speaks of it
 abbrev pub names_point : Rule → RecordType → Action → Bool
-names_point rule t a = has same_type rule.types t && has same_action rule.actions a
+names_point rule t a = names_pair rule.types rule.actions t a
 
 -- a pair is in both sets
 pub record IsInBoth (one other : ℕ) (record_type : RecordType) (action : Action) : Type 0 where

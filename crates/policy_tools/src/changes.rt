@@ -80,7 +80,11 @@ fn places_of(alloc: Global, old: &[Rule], new: &[Rule]) -> Result<Vec<Rule>, All
 }
 
 /// Adds a rule at the name of each of these.
-fn add_places(alloc: Global, rules: &[Rule], places: &mut Vec<Rule>) -> Result<(), AllocError>
+pub(crate) fn add_places(
+    alloc: Global,
+    rules: &[Rule],
+    places: &mut Vec<Rule>,
+) -> Result<(), AllocError>
     ensures { OnOk result (places.new.items ≡ places.old.items ++ map place_of rules.now) }
 {
     for rule in rules {

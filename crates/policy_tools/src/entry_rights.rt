@@ -1,11 +1,11 @@
 //! What entries grant a caller, and what they grant others.
 
-ghost use Rattle.std.specs.Prelude.{◌≡◌, ◌↔◌, length, IsTrue, MatchOption};
-ghost use Rattle.std.specs.List.{Contains};
+ghost use Rattle.std.specs.Prelude.{◌≡◌, ◌↔◌, length, bytes_eq, IsTrue, MatchOption};
+ghost use Rattle.std.specs.List.{Contains, list_any};
 ghost use Rattle.grant_policy.specs.declared.callers.Callers.TheVariants.{One};
 ghost use Rattle.policy_tools.specs.declared.claims.Entry.{Entry as EntryOf};
 ghost use Rattle.policy_tools.specs.declared.exposure.Right.{Right as RightOf};
-ghost use Rattle.policy_tools.specs.EntryRights.{IsWanted, IsGrant, GrantsAmong, GrantsOthers};
+ghost use Rattle.policy_tools.specs.EntryRights.{IsWanted, IsGrant, GrantsAmong, GrantsOthers, GrantsUnlisted, are_listed};
 
 use crate::claims::Entry;
 use crate::exposure::Right;
@@ -47,6 +47,44 @@ pub(crate) fn other_right(entries: &[Entry<'_>], caller: &Identifier) -> Option<
         }
     }
     None
+}
+
+/// One of some rights that entries grant others than the callers of a list.
+pub(crate) fn unlisted_right(
+    entries: &[Entry<'_>],
+    listed: &[Identifier],
+    wanted: Points,
+) -> Option<Right>
+    ensures { MatchOption result ((e : EntryOf) (right : RightOf) → Contains entries.now e → ¬ GrantsUnlisted listed.now wanted.bits e right)
+        (λ right. (e : EntryOf) × Contains entries.now e × GrantsUnlisted listed.now wanted.bits e right) }
+{
+    for entry in entries {
+        if !are_listed(&entry.claim.rule.callers, listed) {
+            if let Some(right) = granted(*entry, entry.left, wanted) {
+                return Some(right);
+            }
+        }
+    }
+    None
+}
+
+/// Whether a list has the caller of whom alone a rule speaks.
+fn are_listed(callers: &Callers, listed: &[Identifier]) -> bool
+    ensures { result ≡ are_listed listed.now callers.now }
+{
+    match callers {
+        Callers::Every => false,
+        Callers::One(identifier) => is_among(identifier, listed),
+    }
+}
+
+/// Whether a list has an identifier.
+fn is_among(identifier: &Identifier, listed: &[Identifier]) -> bool
+    ensures { result ≡ list_any (λ other. bytes_eq other identifier.now) listed.now }
+{
+    listed
+        .iter()
+        .any(|other| other.as_bytes() == identifier.as_bytes())
 }
 
 /// Whether a caller is the only one of whom a rule speaks.

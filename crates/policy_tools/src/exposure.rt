@@ -151,7 +151,7 @@ fn exposure_by_entries(
 }
 
 /// The caller that is named, if one is.
-fn named(alloc: Global, callers: &Callers) -> Result<Option<Identifier>, AllocError>
+pub(crate) fn named(alloc: Global, callers: &Callers) -> Result<Option<Identifier>, AllocError>
     ensures { IfOk result (λ named. named ≡ named_of callers.now) }
 {
     match callers {

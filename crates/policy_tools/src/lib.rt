@@ -3,13 +3,19 @@
 //! short list of names, and each caller that no rule names is like any other.
 #![tactic(auto)]
 
+mod caller_list;
 mod changes;
 mod claims;
 mod entry_rights;
+mod expectation;
+mod expectation_fault;
+mod expectation_lines;
+mod expectations;
 mod exposure;
 mod free_names;
 mod idle;
 mod laws;
+mod limits;
 mod name_changes;
 mod name_groups;
 mod name_rights;
@@ -20,10 +26,16 @@ mod shared_callers;
 mod taking;
 mod wanted;
 
+pub use caller_list::CallerList;
 pub use changes::{GroupChanges, changes_by_group};
+pub use expectation::{Expectation, ExpectedDecision, Limit};
+pub use expectation_fault::{ExpectationFault, ExpectationsFault};
+pub use expectation_lines::{ExpectationLine, read_expectations};
+pub use expectations::{Counterexample, expectation_fails};
 pub use exposure::{Exposure, Right, isolation};
 pub use idle::{IdleRule, idle_rules};
 pub use laws::each_name_is_in_one_group;
+pub use limits::Excess;
 pub use name_changes::{CallerChange, Change, NameChanges};
 pub use name_groups::{GroupRights, NameGroup, rights_by_group};
 pub use name_rights::{CallerRights, NameRights, rights_at};

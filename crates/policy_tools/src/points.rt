@@ -3,12 +3,12 @@
 ghost use Rattle.std.specs.Prelude.{◌≡◌, ◌<◌, ◌^◌, ◌&&◌, ◌||◌, not, ◌↔◌, true, false, IsTrue, MatchOption};
 ghost use Rattle.dns_data.specs.declared.record_type.RecordType.{RecordType as TypeOf};
 ghost use Rattle.grant_policy.specs.declared.action.Action.{Action as ActionOf};
-ghost use Rattle.policy_tools.specs.Points.{has_point, names_point, pairs, Meet, IsInBoth, Differ, type_at, action_at};
+ghost use Rattle.policy_tools.specs.Points.{has_point, names_pair, names_point, pairs, Meet, IsInBoth, Differ, type_at, action_at};
 ghost use Rattle.policy_tools.specs.Wanted.{wants};
 
 use crate::wanted::Wanted;
 use dns_data::RecordType;
-use grant_policy::{Action, Rule};
+use grant_policy::{Action, Actions, Rule, Types};
 
 /// How many pairs of a record type and an action there are.
 const PAIRS: usize = 5 * RecordType::ALL.len();
@@ -39,9 +39,16 @@ impl Points {
     pub(crate) fn of(rule: &Rule) -> Points
         ensures { (t : TypeOf) (a : ActionOf) → has_point result.bits t a ≡ names_point rule.now t a }
     {
+        Points::among(&rule.types, &rule.actions)
+    }
+
+    /// The pairs of some types and some actions.
+    pub(crate) fn among(types: &Types, actions: &Actions) -> Points
+        ensures { (t : TypeOf) (a : ActionOf) → has_point result.bits t a ≡ names_pair types.now actions.now t a }
+    {
         let mut bits = 0;
         for number in 0..PAIRS {
-            if names(rule, number) {
+            if names(types, actions, number) {
                 bits |= 1u64 << number;
             }
         }
@@ -126,10 +133,10 @@ impl Points {
     }
 }
 
-/// Whether a rule speaks of the pair of this number: five for each type, one for each action.
-fn names(rule: &Rule, number: usize) -> bool
+/// Whether the pair of this number is of some types and some actions: five for each type, one for each action.
+fn names(types: &Types, actions: &Actions, number: usize) -> bool
     requires { number < pairs }
-    ensures { result ≡ names_point rule.now (type_at number) (action_at number) }
+    ensures { result ≡ names_pair types.now actions.now (type_at number) (action_at number) }
 {
-    rule.types.include(RecordType::ALL[number / 5]) && rule.actions.include(Action::ALL[number % 5])
+    types.include(RecordType::ALL[number / 5]) && actions.include(Action::ALL[number % 5])
 }

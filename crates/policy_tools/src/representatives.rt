@@ -13,7 +13,7 @@ use std::alloc::{AllocError, Global};
 /// Names such that each name is covered by the same rules as one of them: the root, the names of the rules, and below each of
 /// these a name that no rule has, if there is one. The only error is out of memory.
 pub(crate) fn representatives(alloc: Global, rules: &[Rule]) -> Result<Vec<Name>, AllocError>
-    requires { length rules.now ≤ 1024 }
+    requires { length rules.now ≤ 2048 }
     ensures { IfOk result (λ names. Represent rules.now names.items) }
 {
     let mut names = with_root(alloc, rules)?;
@@ -37,7 +37,7 @@ pub(crate) fn root(alloc: Global) -> Result<Name, AllocError>
 
 /// The root, and a free name below it, if there is one.
 fn with_root(alloc: Global, rules: &[Rule]) -> Result<Vec<Name>, AllocError>
-    requires { length rules.now ≤ 1024 }
+    requires { length rules.now ≤ 2048 }
     ensures { IfOk result (λ names. AddsServed rules.now [] [] names.items) }
 {
     let root = root(alloc)?;
@@ -53,7 +53,7 @@ fn add_with_child(
     top: &Name,
     names: &mut Vec<Name>,
 ) -> Result<(), AllocError>
-    requires { length rules.now ≤ 1024 }
+    requires { length rules.now ≤ 2048 }
     ensures added { OnOk result (AddsServed rules.now top.now names.old.items names.new.items) }
     ensures name { IsName top.now }
 {
