@@ -312,7 +312,7 @@ fn answers<M: Surroundings, R: Source, W: Sink>(
     output: &mut W,
 ) -> Result<(), AnswerFault>
     ensures { IsInquiredOf (M.around around.now)
-        (record { left = R.remaining input.old; rest = R.remaining input.new; before = R.failures input.old; after = R.failures input.new }) words
+        (record { left = R.remaining input.old; rest = R.remaining input.new; before = R.failures input.old; after = R.failures input.new }) words.entry
         (record { old = W.contents output.old; new = W.contents output.new; before = W.failures output.old; after = W.failures output.new }) result }
 {
     if is_standard(words.file) {
@@ -333,7 +333,7 @@ fn answer<M: Surroundings, R: Source, W: Sink>(
     output: &mut W,
 ) -> ExitCode
     ensures { AnswerEnds (M.around around.now)
-        (record { left = R.remaining input.old; rest = R.remaining input.new; before = R.failures input.old; after = R.failures input.new }) words
+        (record { left = R.remaining input.old; rest = R.remaining input.new; before = R.failures input.old; after = R.failures input.new }) words.entry
         (record { old = W.contents output.old; new = W.contents output.new; before = W.failures output.old; after = W.failures output.new })
         (exit_status result) }
 {

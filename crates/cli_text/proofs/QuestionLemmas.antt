@@ -7,7 +7,7 @@ use Rattle.dns_master.specs.declared.token.Token.{Token}
 use Rattle.dns_master.specs.Tokens.{token_of}
 use Rattle.update_lines.specs.Reading.{EntryLine}
 use Rattle.update_lines.specs.Views.{entry_of, gathered}
-use Rattle.update_lines.proofs.GatherLemmas.{run, lined, gathered_first}
+use Rattle.update_lines.proofs.GatherLemmas.{run, gathered_first}
 use Rattle.cli_core.specs.declared.refusal.Refusal.{Refusal}
 use Rattle.cli_core.specs.declared.line_fault.LineFault.{LineFault}
 use Rattle.cli_core.specs.declared.line_fault.LineFault.TheVariants.{Refused, ReadFailed, NoMemory}
@@ -15,6 +15,9 @@ use Rattle.cli_core.specs.LineFaults.{◌>>=◌, Gives}
 use Rattle.cli_text.specs.declared.questions.Question.{Question}
 use Rattle.cli_text.specs.Questions.{QuestionOf, question_of, questions_in}
 use Rattle.cli_text.specs.QuestionViews.{question_view}
+
+abbrev lined : ℕ → List ItemText → EntryLine
+lined line items = record { line = line; items = items }
 
 -- the first token is of its own entry
 whole_first : (t : Token) (ts : List Token) → gathered (map token_of (t ∷ ts)) ≡ lined t.line (entry_of (take (run t.entry (t ∷ ts)) (t ∷ ts))) ∷ gathered (map token_of (drop (run t.entry (t ∷ ts)) (t ∷ ts)))

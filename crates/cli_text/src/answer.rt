@@ -13,11 +13,20 @@ use crate::answer_fault::AnswerFault;
 use crate::canon::{read_name, zone_of_file};
 use crate::questions::{Inquiry, Question, inquiry_in, inquiry_of};
 use crate::task::Task;
+use crate::zone_check::line_of;
 use cli_core::{Answer, Input, JobFault, LineFault, read_input, write_refusal, write_text};
 use dns_data::Record;
 use dns_master::Sink;
 use std::alloc::{AllocError, Global};
 use zone_answers::ZoneIndex;
+
+/// Appends the line of a record. The only error is out of memory.
+fn push_record(alloc: Global, text: &mut Vec<u8>, rr: &Record) -> Result<(), AllocError>
+    ensures { OnOk result (text.new.items ≡ text.old.items ++ record_text rr.now) }
+{
+    let line = line_of(alloc, rr)?;
+    text.extend_from_slice(line.as_bytes())
+}
 
 /// Appends the lines of records. The only error is out of memory.
 pub(crate) fn push_records(
@@ -28,8 +37,7 @@ pub(crate) fn push_records(
     ensures { OnOk result (text.new.items ≡ text.old.items ++ records_text records.now) }
 {
     for record in records {
-        let line = format!(in alloc; "{record}\n")?;
-        text.extend_from_slice(line.as_bytes())?;
+        push_record(alloc, text, record)?;
     }
     Ok(())
 }
@@ -136,7 +144,7 @@ impl Task for Inquiry {
 
 /// What is printed of the question of words about the zone that a reader gives.
 fn answer<R: Input>(alloc: Global, words: Answer<'_>, reader: &mut R) -> Result<Vec<u8>, LineFault>
-    ensures { GivesOf (λ text. text.items) (R.left reader.old) (answer_text words.origin.now words.name.now (option_map (λ t. t.now) words.asked)) result
+    ensures { GivesOf (λ text. text.items) (R.left reader.old) (answer_text words.entry.origin.now words.entry.name.now (option_map (λ t. t.now) words.entry.asked)) result
         (R.fine reader.old reader.new) (R.failed reader.old reader.new) }
 {
     let inquiry = inquiry_of(alloc, words.origin, words.name, words.asked)?;

@@ -1,10 +1,7 @@
 //! The type that a word asks for.
 
-ghost use Rattle.std.specs.Prelude.{◌≡◌, ◌≤◌, ◌==◌, option_map, find, fold};
-ghost use Rattle.std.specs.Option.{option_ok};
-ghost use Rattle.dns_data.specs.declared.record_type.RecordType.{RecordType};
-ghost use Rattle.dns_data.specs.Types.{type_named, type_number};
-ghost use Rattle.cli_text.specs.Questions.{digit_step, number_read, is_any, numbered_type, behind_type, type_by_number, query_type_of};
+ghost use Rattle.std.specs.Prelude.{◌≡◌, ◌≤◌, option_map};
+ghost use Rattle.cli_text.specs.Questions.{digit_step, number_read, numbered_type, behind_type, type_by_number, other_type, query_type_of};
 
 use dns_data::{RecordType, is_number};
 use zone_answers::QueryType;

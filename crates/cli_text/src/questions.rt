@@ -1,6 +1,6 @@
 //! The questions that words and lines ask about a zone.
 
-ghost use Rattle.std.specs.Prelude.{◌≡◌, ◌==◌, IfOk, map, option_map};
+ghost use Rattle.std.specs.Prelude.{◌≡◌, ◌==◌, ◌++◌, ◌∷◌, [], IfOk, OnOk, map, option_map};
 ghost use Rattle.std.specs.List.{prefix_len};
 ghost use Rattle.dns_names.specs.Reading.{absolute_name};
 ghost use Rattle.dns_data.specs.Items.{item_of};
@@ -10,7 +10,7 @@ ghost use Rattle.cli_core.specs.LineFaults.{Gives, or_refused};
 ghost use Rattle.cli_core.specs.declared.refusal.Refusal.TheVariants as refusal;
 ghost use Rattle.cli_core.specs.declared.word_fault.WordFault.TheVariants as word;
 ghost use Rattle.cli_text.specs.QuestionViews.{question_view, inquiry_view};
-ghost use Rattle.cli_text.specs.Questions.{unquoted, name_on, query_type_of, inquiry_of, typed_question, question_of, questions_in, questions_of, inquiry_in};
+ghost use Rattle.cli_text.specs.Questions.{unquoted, name_on, query_type_of, question, inquiry_of, typed_question, question_of, questions_in, questions_of, inquiry_in};
 
 use crate::canon::read_name;
 use crate::query_type::query_type_of;
@@ -82,7 +82,7 @@ fn type_or(word: &[u8], refusal: Refusal) -> Result<QueryType, LineFault>
 }
 
 /// A question of a name. The only error is out of memory.
-fn question(
+fn make_question(
     alloc: Global,
     name: Name,
     word: &[u8],
@@ -106,13 +106,13 @@ fn typed_question(
     match kinds {
         [] => {
             let asked = QueryType::Kept(RecordType::A);
-            Ok(question(alloc, name, ADDRESS.as_bytes(), asked)?)
+            Ok(make_question(alloc, name, ADDRESS.as_bytes(), asked)?)
         }
         [kind] => {
             let raw = unquoted(line, WordFault::Type, *kind)?;
             let fault = WordFault::Type;
             let asked = type_or(raw, Refusal::Line { line, fault })?;
-            Ok(question(alloc, name, raw, asked)?)
+            Ok(make_question(alloc, name, raw, asked)?)
         }
         _ => Err(on_line(line, WordFault::Question)),
     }
@@ -150,6 +150,14 @@ fn entry_len(tokens: &[Token], entry: usize) -> usize
         .count()
 }
 
+/// Appends a question. The only error is out of memory.
+fn push_question(questions: &mut Vec<Question>, question: Question) -> Result<(), AllocError>
+    ensures { OnOk result (questions.new.items ≡ questions.old.items ++ question ∷ []) }
+{
+    questions.push(question)?;
+    Ok(())
+}
+
 /// The questions of all entries, or the refusal of the first that is none.
 fn questions_in(alloc: Global, tokens: &[Token]) -> Result<Vec<Question>, LineFault>
     ensures { Gives (λ qs. map question_view qs.items) result (questions_in (gathered (map token_of tokens.now))) }
@@ -160,7 +168,8 @@ fn questions_in(alloc: Global, tokens: &[Token]) -> Result<Vec<Question>, LineFa
         let Token { line, entry, .. } = tokens[at];
         let (_, rest) = tokens.split_at(at);
         let len = entry_len(rest, entry);
-        questions.push(read_entry(alloc, line, &rest[..len])?)?;
+        let question = read_entry(alloc, line, &rest[..len])?;
+        push_question(&mut questions, question)?;
         at += len;
     }
     Ok(questions)
@@ -197,6 +206,6 @@ pub(crate) fn inquiry_of(
     let word = asked.unwrap_or(ADDRESS).as_bytes();
     let asked = type_or(word, Refusal::TypeNotKept)?;
     let mut questions = Vec::new(alloc);
-    questions.push(question(alloc, name, word, asked)?)?;
+    push_question(&mut questions, make_question(alloc, name, word, asked)?)?;
     Ok(Inquiry { origin, questions })
 }

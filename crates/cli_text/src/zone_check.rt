@@ -56,7 +56,7 @@ pub(crate) fn filter_of(rules: RuleChoice<'_>) -> Result<RuleFilter, LineFault>
 }
 
 /// The line of a record.
-fn line_of(alloc: Global, rr: &Record) -> Result<String, AllocError>
+pub(crate) fn line_of(alloc: Global, rr: &Record) -> Result<String, AllocError>
     ensures { IfOk result (λ line. string_bytes line ≡ record_line rr.now ++ 10 ∷ []) }
 {
     format!(in alloc; "{rr}\n")
