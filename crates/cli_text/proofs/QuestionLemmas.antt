@@ -1,5 +1,6 @@
 -- Questions are read entry by entry.
 use Rattle.std.proofs.Common.{◌≡◌, ℕ, suc, ◌+◌, Bool, cond, eqb, List, [], ◌∷◌, ◌++◌, length, map, take, drop, Result, Ok, Err, refl, sym, ap, subst, ◌∙◌, arith, append_assoc, append-nil, eq-eqb, ◌<◌, ◌≤◌, get_or, length-drop}
+use Rattle.std.proofs.lemmas.List.{map-append}
 use Rattle.std.proofs.lemmas.List.Sums.{prefix_len-le-length}
 use Rattle.std.proofs.Math.Seq.{drop-cons, drop-drop}
 use Rattle.dns_data.specs.Items.{ItemText}
@@ -46,6 +47,10 @@ pub refused_in : {A B X : Type 0} (view : X → B) (step : Result A Refusal → 
 refused_in view step keeps seen (Refused refusal) read h = ap step h ∙ keeps refusal
 refused_in view step keeps seen NoMemory read h = tt
 refused_in view step keeps seen ReadFailed read h = absurd h
+
+-- one more question
+pub viewed : (old new : List Question) (q : Question) → new ≡ old ++ q ∷ [] → map question_view new ≡ map question_view old ++ question_view q ∷ []
+viewed old new q e = ap (map question_view) e ∙ map-append question_view old (q ∷ [])
 
 -- the tokens from one on
 module _ (all : Result (List QuestionOf) Refusal) (front : List QuestionOf) (ts rest : List Token) (at n : ℕ) (d : Token) (h : at < length ts) (from : rest ≡ drop at ts) (len : n ≡ run (get_or ts at d).entry rest) (so_far : all ≡ then_questions front (questions_in (gathered (map token_of (drop at ts))))) where

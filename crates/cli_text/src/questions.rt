@@ -10,7 +10,7 @@ ghost use Rattle.cli_core.specs.LineFaults.{Gives, or_refused};
 ghost use Rattle.cli_core.specs.declared.refusal.Refusal.TheVariants as refusal;
 ghost use Rattle.cli_core.specs.declared.word_fault.WordFault.TheVariants as word;
 ghost use Rattle.cli_text.specs.QuestionViews.{question_view, inquiry_view};
-ghost use Rattle.cli_text.specs.Questions.{unquoted, name_on, query_type_of, question, inquiry_of, typed_question, question_of, questions_in, questions_of, inquiry_in};
+ghost use Rattle.cli_text.specs.Questions.{unquoted, name_on, query_type_of, question, type_word, inquiry_of, typed_question, question_of, questions_in, questions_of, inquiry_in};
 
 use crate::canon::read_name;
 use crate::query_type::query_type_of;
@@ -192,6 +192,16 @@ pub(crate) fn inquiry_in(alloc: Global, origin: Name, text: &[u8]) -> Result<Inq
     Ok(Inquiry { origin, questions })
 }
 
+/// The type that is asked for: as it is given, or that of addresses.
+fn type_word(asked: Option<&str>) -> &str
+    ensures { result.now ≡ type_word (option_map (λ t. t.now) asked.entry) }
+{
+    match asked {
+        Some(word) => word,
+        None => ADDRESS,
+    }
+}
+
 /// The question of words about the zone of an origin: of a name, and a type or none.
 pub(crate) fn inquiry_of(
     alloc: Global,
@@ -203,7 +213,7 @@ pub(crate) fn inquiry_of(
 {
     let origin = read_name(alloc, origin)?;
     let name = read_name(alloc, name)?;
-    let word = asked.unwrap_or(ADDRESS).as_bytes();
+    let word = type_word(asked).as_bytes();
     let asked = type_or(word, Refusal::TypeNotKept)?;
     let mut questions = Vec::new(alloc);
     push_question(&mut questions, make_question(alloc, name, word, asked)?)?;

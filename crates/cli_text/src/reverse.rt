@@ -1,20 +1,21 @@
 //! The PTR records that the addresses of forward zones call for, as text.
 
-ghost use Rattle.std.specs.Prelude.{◌≡◌, List, IfOk};
+ghost use Rattle.std.specs.Prelude.{◌≡◌, ◌++◌, List, IfOk, OnOk};
 ghost use Rattle.dns_data.specs.declared.record.Record.{Record as RecordOf};
 ghost use Rattle.cli_core.specs.LineFaults.{Gives};
 ghost use Rattle.cli_text.specs.Apply.{records_of};
-ghost use Rattle.cli_text.specs.Reverse.{IsReverseReport};
+ghost use Rattle.cli_text.specs.Reverse.{shared_line, shared_lines, IsReverseReport};
 
 use crate::answer::push_records;
 use crate::apply::read_records;
 use crate::check::{Findings, Report};
+use crate::zone_check::line_of;
 use cli_core::LineFault;
 use dns_data::Record;
 use dns_names::Name;
 use std::alloc::{AllocError, Global};
 use std::marker::Model;
-use zone_tools::reverse_pointers;
+use zone_tools::{reverse_pointers, shared_addresses};
 
 /// The records of forward zones. A contract sees the list of them.
 #[derive(Drop)]
@@ -36,7 +37,27 @@ pub(crate) fn forward_records(alloc: Global, text: Vec<u8>) -> Result<ForwardRec
     Ok(ForwardRecords { records })
 }
 
-/// The report of pointers: their lines. It finds nothing. The only error is out of memory.
+/// Appends the line of a record whose address several names have, a comment. The only error is out of memory.
+fn push_shared(alloc: Global, text: &mut Vec<u8>, rr: &Record) -> Result<(), AllocError>
+    ensures { OnOk result (text.new.items ≡ text.old.items ++ shared_line rr.now) }
+{
+    text.extend_from_slice(b"; shared ")?;
+    let line = line_of(alloc, rr)?;
+    text.extend_from_slice(line.as_bytes())
+}
+
+/// Appends the lines of records whose addresses several names have. The only error is out of memory.
+fn push_all_shared(alloc: Global, text: &mut Vec<u8>, records: &[Record]) -> Result<(), AllocError>
+    ensures { OnOk result (text.new.items ≡ text.old.items ++ shared_lines records.now) }
+{
+    for record in records {
+        push_shared(alloc, text, record)?;
+    }
+    Ok(())
+}
+
+/// The report of pointers: their lines, and behind them as comments the records whose addresses several names have. It finds nothing.
+/// The only error is out of memory.
 pub(crate) fn reverse_report(
     alloc: Global,
     origin: &Name,
@@ -47,6 +68,8 @@ pub(crate) fn reverse_report(
     let pointers = reverse_pointers(alloc, origin, &forward.records)?;
     let mut text = Vec::new(alloc);
     push_records(alloc, &mut text, &pointers)?;
+    let shared = shared_addresses(alloc, origin, &forward.records)?;
+    push_all_shared(alloc, &mut text, &shared)?;
     Ok(Report {
         findings: Findings::Absent,
         text,
