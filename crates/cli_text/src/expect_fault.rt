@@ -12,7 +12,7 @@ pub enum ExpectFault {
     Expected(JobFault),
 }
 
-/// The fault in words, and before it that it is of the policy, or of the expectations where that cannot be told from the words.
+/// The fault in words, and before it that it is of the policy or of the expectations, where the words do not tell.
 impl Display for ExpectFault {
     fn fmt<W: Write>(&self, f: &mut Formatter<W>) -> fmt::Result {
         let (input, fault) = match *self {
@@ -20,7 +20,7 @@ impl Display for ExpectFault {
             ExpectFault::Expected(fault) => ("expectations", fault),
         };
         if let JobFault::Reported(
-            LineFault::ReadFailed | LineFault::Refused(Refusal::TooLarge | Refusal::Policy(_)),
+            LineFault::ReadFailed | LineFault::Refused(Refusal::TooLarge),
         ) = fault
         {
             write!(f, "the {input}: ")?;

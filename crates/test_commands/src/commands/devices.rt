@@ -60,6 +60,7 @@ impl Command<'_> {
             "answer" => self.run_task(alloc, question_in(words), reading, writing),
             "explain" => self.run_task(alloc, asked(words), reading, writing),
             "check" => self.run_check(alloc, Subject::Rules, reading, writing),
+            "reverse" => self.run_check(alloc, Subject::Reverse(words), reading, writing),
             "isolation" => self.run_check(alloc, Subject::Isolation(words), reading, writing),
             _ => no_command(alloc),
         }

@@ -1,25 +1,26 @@
-//! What policies change.
+//! What policies change, and whether they are as expected.
 
 use crate::commands::devices::Manner;
 use crate::commands::trials::{Devices, Trial, tried};
-use cli_text::{ChangesFault, Findings, do_changes};
+use cli_text::{ChangesFault, ExpectFault, Findings, do_changes, do_expect};
 use dns_master::{Sink, Source};
 use std::alloc::{AllocError, Global};
+use std::fmt::Display;
 use test_rows::{Row, text_of};
 
-/// A policy as it is, and another.
+/// A policy, and another or what is expected of it.
 #[derive(Clone, Copy)]
-struct TwoPolicies<'a> {
-    old: &'a str,
-    new: &'a str,
+struct TwoTexts<'a> {
+    first: &'a str,
+    second: &'a str,
 }
 
-impl<'a> TwoPolicies<'a> {
-    /// The two policies of a body, with a line `==` between them.
-    fn of(body: &'a [u8]) -> TwoPolicies<'a> {
+impl<'a> TwoTexts<'a> {
+    /// The two texts of a body, with a line `==` between them.
+    fn of(body: &'a [u8]) -> TwoTexts<'a> {
         let text = text_of(body);
-        let (old, new) = text.split_once("==\n").unwrap_or((text, ""));
-        TwoPolicies { old, new }
+        let (first, second) = text.split_once("==\n").unwrap_or((text, ""));
+        TwoTexts { first, second }
     }
 }
 
@@ -41,6 +42,24 @@ impl Trial for Compares {
     }
 }
 
+/// To write what is expected of a policy and is not so.
+#[derive(Clone, Copy)]
+struct Expects;
+
+impl Trial for Expects {
+    type Outcome = Result<Findings, ExpectFault>;
+
+    fn run<R: Source, N: Source, W: Sink>(
+        self,
+        alloc: Global,
+        first: &mut R,
+        second: &mut N,
+        writer: &mut W,
+    ) -> Result<Findings, ExpectFault> {
+        do_expect(alloc, first, second, writer)
+    }
+}
+
 /// A device whose first call fails.
 const FAILING: Manner = Manner { most: 64, fails: 1 };
 
@@ -59,6 +78,41 @@ pub fn push_against(alloc: Global, row: &Row<'_>, answer: &mut Vec<u8>) -> Resul
     }
 }
 
+/// Appends the answer to a row of a policy and expectations: what is printed of them; or the same where the first read of each fails.
+pub fn push_expect(alloc: Global, row: &Row<'_>, answer: &mut Vec<u8>) -> Result<(), AllocError> {
+    let sound = Manner::SOUND;
+    if row.verb == "expect" {
+        return push_expected(alloc, row, [sound, sound, sound], answer);
+    }
+    push_expected(alloc, row, [FAILING, sound, sound], answer)?;
+    answer.push(b'\n')?;
+    push_expected(alloc, row, [sound, FAILING, sound], answer)
+}
+
+/// Appends what is printed of expectations, with devices that work so.
+fn push_expected(
+    alloc: Global,
+    row: &Row<'_>,
+    manners: [Manner; 3],
+    answer: &mut Vec<u8>,
+) -> Result<(), AllocError> {
+    let devices = devices_of(alloc, row, manners)?;
+    let (printed, done) = tried(alloc, Expects, devices);
+    answer.extend_from_slice(&printed)?;
+    push_findings(alloc, done, answer)
+}
+
+/// Devices that work so: for the two texts of a row, and for the answer.
+fn devices_of(alloc: Global, row: &Row<'_>, manners: [Manner; 3]) -> Result<Devices, AllocError> {
+    let texts = TwoTexts::of(&row.body);
+    let [first, second, writing] = manners;
+    Ok(Devices {
+        first: first.device(Vec::from_slice(alloc, texts.first.as_bytes())?),
+        second: second.device(Vec::from_slice(alloc, texts.second.as_bytes())?),
+        writer: writing.device(Vec::new(alloc)),
+    })
+}
+
 /// Appends what is printed with devices that work so: for the two policies, and for the answer.
 fn push_compared(
     alloc: Global,
@@ -66,22 +120,16 @@ fn push_compared(
     manners: [Manner; 3],
     answer: &mut Vec<u8>,
 ) -> Result<(), AllocError> {
-    let policies = TwoPolicies::of(&row.body);
-    let [old, new, writing] = manners;
-    let devices = Devices {
-        first: old.device(Vec::from_slice(alloc, policies.old.as_bytes())?),
-        second: new.device(Vec::from_slice(alloc, policies.new.as_bytes())?),
-        writer: writing.device(Vec::new(alloc)),
-    };
+    let devices = devices_of(alloc, row, manners)?;
     let (printed, done) = tried(alloc, Compares, devices);
     answer.extend_from_slice(&printed)?;
     push_findings(alloc, done, answer)
 }
 
-/// Appends the exit status of a comparison, and the words of its refusal.
-fn push_findings(
+/// Appends the exit status of a check of two inputs, and the words of its refusal.
+fn push_findings<F: Display + Drop>(
     alloc: Global,
-    done: Result<Findings, ChangesFault>,
+    done: Result<Findings, F>,
     answer: &mut Vec<u8>,
 ) -> Result<(), AllocError> {
     match done {
