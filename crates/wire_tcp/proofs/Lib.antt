@@ -1,3 +1,5 @@
 pub mod PatienceLemmas
+pub mod WaitLemmas
+pub mod AgeLemmas
 pub mod SendLemmas
 pub mod ConnectionLemmas

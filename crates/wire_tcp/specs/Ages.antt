@@ -1,5 +1,5 @@
 -- How old a connection is, by the readings of a clock, and that it ends once it is too old.
-use Rattle.std.specs.Prelude.{◌≡◌, ℕ, ◌+◌, ◌<◌, ◌≤◌, ◌==◌, Bool, true, false, if◌then◌else◌, List, [], ◌∷◌, ◌++◌, length, drop, suc, Option, Some, None, MatchOption, IsSomeAnd, Result, Ok, Err, ⊤}
+use Rattle.std.specs.Prelude.{◌≡◌, ℕ, ◌<◌, ◌≤◌, ◌==◌, Bool, true, false, List, [], ◌∷◌, ◌++◌, length, drop, suc, Option, Some, None, MatchOption, IsSomeAnd, Result, Ok, Err, ⊤}
 use Rattle.std.specs.List.{AllByRecursion}
 use Rattle.office_wire.specs.declared.ending.Ending.{Ending}
 use Rattle.office_wire.specs.declared.ending.Ending.TheVariants.{Overdue}
@@ -36,10 +36,15 @@ abbrev pub is_spent : Option ℕ → Bool
 is_spent None = false
 is_spent (Some left) = left == 0
 
--- how many of the readings are not before the first at which it was too old
+-- a reading at which it was too old or not, those after it, and how many of these are overdue
+abbrev pub overdue_from : Bool → List (Option ℕ) → ℕ → ℕ
+overdue_from true later n = suc (length later)
+overdue_from false later n = n
+
+-- how many of the readings are overdue: the first at which it was too old, and all after it
 abbrev pub overdue : Option ℕ → Option ℕ → List (Option ℕ) → ℕ
 overdue longest begun [] = 0
-overdue longest begun (now ∷ readings) = if is_spent (less longest (between begun now)) then suc (length readings) else overdue longest begun readings
+overdue longest begun (now ∷ readings) = overdue_from (is_spent (less longest (between begun now))) readings (overdue longest begun readings)
 
 -- the readings since a moment, where they are known, are so many, and so many of them are overdue
 abbrev pub AreTold : Option ℕ → Option ℕ → Option (List (Option ℕ)) → Option (List (Option ℕ)) → ℕ → ℕ → Type 0

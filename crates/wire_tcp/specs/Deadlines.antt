@@ -10,7 +10,7 @@ use Rattle.wire_tcp.specs.declared.pace.Awaited.{Awaited}
 use Rattle.wire_tcp.specs.declared.pace.Awaited.TheVariants.{First, Next, Rest, Taking}
 use Rattle.wire_tcp.specs.declared.pace.Pace.{Pace}
 use Rattle.wire_tcp.specs.declared.pace.Running.{Running}
-use Rattle.wire_tcp.specs.Limits.{Limits, IsWithin}
+use Rattle.wire_tcp.specs.Limits.{Limits, limits_in, IsWithin}
 use Rattle.wire_tcp.specs.Waits.{Call, reading, writing, Noted, Wait, noted, between, less, spent_in}
 
 -- what is awaited, and how much of the time for it is left
@@ -22,7 +22,7 @@ abbrev pub deadline_of : Running → Deadline
 deadline_of r = record { awaited = r.awaited; left = option_map as_nanos r.left }
 
 abbrev pub limits_of : Pace → Limits
-limits_of p = record { patience = option_map as_nanos p.patience; longest = option_map as_nanos p.age.longest }
+limits_of p = limits_in p.patience p.age.longest
 
 abbrev pub fresh : Awaited → Option ℕ → Deadline
 fresh awaited time = record { awaited = awaited; left = time }

@@ -1,5 +1,7 @@
 -- For how long a peer is waited for, and how old a connection gets.
-use Rattle.std.specs.Prelude.{ℕ, ◌≤◌, zero, suc, min, Option, Some, None, MatchOption, IsSomeAnd, ⊤}
+use Rattle.std.specs.Prelude.{ℕ, ◌≤◌, zero, suc, min, Option, Some, None, option_map, MatchOption, IsSomeAnd, ⊤}
+use Rattle.std.specs.Duration.{as_nanos}
+use Rattle.std.specs.declared.time.Duration.{Duration}
 
 -- A number of seconds, and the usual one where none is given: no limit for 0, and at most 1,000,000,000.
 abbrev pub seconds_in : ℕ → Option ℕ → Option ℕ
@@ -19,6 +21,9 @@ longest_in given = seconds_in 60 given
 pub record Limits : Type 0 where
   pub patience : Option ℕ
   pub longest : Option ℕ
+
+abbrev pub limits_in : Option Duration → Option Duration → Limits
+limits_in patience longest = record { patience = option_map as_nanos patience; longest = option_map as_nanos longest }
 
 -- a limit of a read or a write is at most a time, where there is one
 abbrev pub IsWithin : Option ℕ → Option ℕ → Type 0

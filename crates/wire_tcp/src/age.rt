@@ -12,6 +12,13 @@ use std::marker::{Brand, PhantomData};
 use std::sync::ledger::{Blank, Book, Ledger, Share};
 use std::time::{Clock, Duration};
 
+/// What tells the age of a connection, and what it told when that began.
+#[derive(Drop)]
+pub(crate) struct Watched<W: Drop> {
+    pub(crate) watch: W,
+    pub(crate) begun: Option<Duration>,
+}
+
 /// The age of a connection and what was read of the clock when it began, for contracts alone.
 pub(crate) trait AgeOf {
     /// At what age it ends.
@@ -93,7 +100,7 @@ impl<C: Clock, W: Watch, L: Ledger, Q: AgeOf> Deadline for AgeLimit<'_, C, W, L,
     fn has_passed(&mut self) -> bool {
         let now = self.watch.now(self.clock);
         self.book.add(&mut self.asks, 1);
-        self.passed = self.passed || self.age.is_over(now);
+        self.passed = self.age.is_over(self.passed, now);
         if self.passed {
             self.book.add(&mut self.passes, 1);
         }

@@ -1,6 +1,6 @@
 //! For how long a peer is waited for: the deadline that runs, and the age of the connection.
 
-ghost use Rattle.std.specs.Prelude.{◌≡◌, option_map};
+ghost use Rattle.std.specs.Prelude.{◌≡◌, ◌||◌, option_map};
 ghost use Rattle.std.specs.Duration.{as_nanos};
 ghost use Rattle.wire_tcp.specs.Limits.{IsWithin};
 ghost use Rattle.wire_tcp.specs.Waits.{between, less, reading, writing};
@@ -25,13 +25,13 @@ impl Age {
         less(self.longest, between(self.begun, now))
     }
 
-    /// Whether nothing is left of the time.
-    pub(crate) fn is_over(self, now: Option<Duration>) -> bool
-        ensures { result ≡ is_spent (less (option_map as_nanos self.longest) (between (option_map as_nanos self.begun) (option_map as_nanos now))) }
+    /// Whether nothing is left of the time, now or before.
+    pub(crate) fn is_over(self, before: bool, now: Option<Duration>) -> bool
+        ensures { result ≡ before || is_spent (less (option_map as_nanos self.longest) (between (option_map as_nanos self.begun) (option_map as_nanos now))) }
     {
         match self.left(now) {
-            Some(left) => left.is_zero(),
-            None => false,
+            Some(left) => before || left.is_zero(),
+            None => before,
         }
     }
 }
