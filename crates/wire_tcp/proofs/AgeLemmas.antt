@@ -1,5 +1,5 @@
 -- The readings by which the age of a connection was told.
-use Rattle.std.proofs.Common.{◌≡◌, ◌⊎◌, ◌<◌, ◌≤◌, ◌+◌, ◌-◌, ◌==◌, ◌||◌, inl, inr, ◌∙◌, ℕ, zero, suc, Bool, true, false, not, List, [], ◌∷◌, ◌++◌, length, drop, Option, Some, None, Result, Ok, Err, refl, sym, ap, subst, append-nil, append_assoc, length-append, arith}
+use Rattle.std.proofs.Common.{◌≡◌, ◌⊎◌, ◌<◌, ◌≤◌, ◌+◌, ◌-◌, ◌==◌, ◌||◌, inl, inr, ◌∙◌, ℕ, zero, suc, Bool, true, false, not, List, [], ◌∷◌, ◌++◌, length, drop, Option, Some, None, Result, Ok, Err, refl, sym, ap, subst, append_assoc, length-append, arith}
 use Rattle.std.proofs.lemmas.Bool.{eqb-true}
 use Rattle.std.proofs.Math.Dec.{eqb-suc-zero}
 use Rattle.std.specs.Prelude.{⊤, MatchOption, IsSomeAnd}
@@ -80,8 +80,8 @@ module _ (longest begun : Option ℕ) where
       let n = length-append rest (now ∷ []) in
       let many = told.1 in
       subst (λ (l : List (Option ℕ)). AreTold longest begun (Some known) (Some l) (asked + 1) then)
-          (sym (append_assoc known rest (now ∷ [])) ∙ ap (λ (l : List (Option ℕ)). l ++ now ∷ []) (sym told.0))
-          (told_of known (rest ++ now ∷ []) (asked + 1) then (omega (arith, n, many)) (more rest told.2))
+      (sym (append_assoc known rest (now ∷ [])) ∙ ap (λ (l : List (Option ℕ)). l ++ now ∷ []) (sym told.0))
+      (told_of known (rest ++ now ∷ []) (asked + 1) then (omega (arith, n, many)) (more rest told.2))
 
   told_by : (before a b : Option (List (Option ℕ))) (now : Option ℕ) (asked passed then : ℕ) → AreTold longest begun before a asked passed → Follows a b (now ∷ [])
       → ((rest : List (Option ℕ)) → overdue longest begun rest ≡ passed → overdue longest begun (rest ++ now ∷ []) ≡ then)

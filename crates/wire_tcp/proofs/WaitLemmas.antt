@@ -1,7 +1,7 @@
 -- One wait, and the waits of a connection as rounds.
-use Rattle.std.proofs.Common.{◌≡◌, ◌⊎◌, ◌<◌, inl, inr, ◌∙◌, ℕ, zero, suc, Bool, true, false, List, [], ◌∷◌, ◌++◌, length, Option, option_map, refl, sym, ap, subst, append-nil, append_assoc, arith}
-use Rattle.std.specs.Prelude.{⊤}
-use Rattle.std.specs.List.{flat_map, AllByRecursion}
+use Rattle.std.proofs.Common.{◌≡◌, ◌⊎◌, ◌<◌, inl, inr, ◌∙◌, ℕ, zero, suc, Bool, true, false, List, [], ◌∷◌, ◌++◌, length, Option, option_map, refl, ap, subst, arith}
+use Rattle.std.specs.Prelude.{◌+◌, ◌-◌, ◌≤◌, Some, None, IsSomeAnd, unwrap_or, ⊤}
+use Rattle.std.specs.List.{flat_map}
 use Rattle.std.specs.Duration.{as_nanos}
 use Rattle.office_wire.specs.Order.{Follows}
 use Rattle.office_wire.proofs.OrderLemmas.{follows_join}
@@ -10,7 +10,7 @@ use Rattle.wire_tcp.specs.declared.pace.Awaited.TheVariants.{First, Next, Rest, 
 use Rattle.wire_tcp.specs.declared.pace.Pace.{Pace}
 use Rattle.wire_tcp.specs.declared.pace.Running.{Running}
 use Rattle.wire_tcp.specs.Limits.{Limits, IsWithin}
-use Rattle.wire_tcp.specs.Waits.{Call, reading, writing, Noted, clock, made, Wait, noted, between, less, spent_in, FitWithin, Round, waits_of, Begins, AreAll, IsRound, IsYoungAt, AreLater, AreRounds, AreWaits}
+use Rattle.wire_tcp.specs.Waits.{Call, reading, writing, Noted, clock, made, Wait, noted, between, less, spent_in, total, WaitsEndInTime, FitWithin, Round, waits_of, Begins, AreAll, IsRound, IsYoungAt, AreLater, AreWaits}
 use Rattle.wire_tcp.specs.Deadlines.{Deadline, deadline_of, limits_of, fresh, during, after, IsInTime, Leads, ArePaced}
 
 -- one wait, of which this was noted
@@ -297,3 +297,30 @@ are_waits pace r t a b c first fresh connected p =
       subst (λ (l : List Wait). Follows a c (clock begun ∷ flat_map noted l)) all.all (follows_join a b c (clock begun ∷ []) (flat_map noted p.0) connected p.1),
       (whole (limits_of pace).patience all.one all.goes, all.follow),
     )
+
+-- ---- the whole of them
+
+joined : (limit n before time : ℕ) → (limit ≡ 0) ⊎ (before + limit ≤ time - n) → (limit ≡ 0) ⊎ (n + before + limit ≤ time)
+joined limit n before time (inl none) = inl none
+joined zero n before time (inr fits) = inl refl
+joined (suc limit) n before time (inr fits) = inr (omega (arith, fits))
+
+still : (limit before time : ℕ) → (limit ≡ 0) ⊎ (before + limit ≤ 0) → (limit ≡ 0) ⊎ (0 + before + limit ≤ time)
+still limit before time (inl none) = inl none
+still limit before time (inr fits) = inl (omega (arith, fits))
+
+after_one : (time : ℕ) (spent : Option ℕ) (before : ℕ) (limit : Option ℕ) (rest : (t : ℕ) → less (Some time) spent ≡ Some t → IsSomeAnd limit (λ l. (l ≡ 0) ⊎ (before + l ≤ t)))
+    → IsSomeAnd limit (λ l. (l ≡ 0) ⊎ (unwrap_or spent 0 + before + l ≤ time))
+after_one time None before None rest = rest 0 refl
+after_one time (Some n) before None rest = rest (time - n) refl
+after_one time None before (Some l) rest = still l before time (rest 0 refl)
+after_one time (Some n) before (Some l) rest = joined l n before time (rest (time - n) refl)
+
+at_first : (time : ℕ) (limit : Option ℕ) → IsWithin (Some time) limit → IsSomeAnd limit (λ l. (l ≡ 0) ⊎ (0 + l ≤ time))
+at_first time None fits = absurd fits
+at_first time (Some l) fits = inr (omega (arith, fits))
+
+pub waits_end_in_time : WaitsEndInTime
+waits_end_in_time time [] w later fits = at_first time w.limit fits.0
+waits_end_in_time time (u ∷ earlier) w later fits = after_one time (spent_in u) (total earlier) w.limit
+    (λ t is. waits_end_in_time t earlier w later (subst (λ (o : Option ℕ). FitWithin o (earlier ++ w ∷ later)) is fits.1))

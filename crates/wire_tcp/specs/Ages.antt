@@ -1,5 +1,5 @@
 -- How old a connection is, by the readings of a clock, and that it ends once it is too old.
-use Rattle.std.specs.Prelude.{◌≡◌, ℕ, ◌<◌, ◌≤◌, ◌==◌, Bool, true, false, List, [], ◌∷◌, ◌++◌, length, drop, suc, Option, Some, None, MatchOption, IsSomeAnd, Result, Ok, Err, ⊤}
+use Rattle.std.specs.Prelude.{◌≡◌, ℕ, ◌<◌, ◌≤◌, ◌==◌, Bool, true, false, List, [], ◌∷◌, ◌++◌, length, drop, suc, Option, Some, None, MatchOption, IsSomeAnd, Result, Ok, ⊤}
 use Rattle.std.specs.List.{AllByRecursion}
 use Rattle.office_wire.specs.declared.ending.Ending.{Ending}
 use Rattle.office_wire.specs.declared.ending.Ending.TheVariants.{Overdue}

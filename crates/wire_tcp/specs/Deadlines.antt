@@ -1,5 +1,5 @@
 -- The deadline that runs while a peer is waited for.
-use Rattle.std.specs.Prelude.{◌≡◌, ℕ, Bool, true, false, List, [], ◌∷◌, Option, option_map, ⊤}
+use Rattle.std.specs.Prelude.{◌≡◌, ℕ, Bool, true, List, [], ◌∷◌, Option, option_map, ⊤}
 use Rattle.std.specs.List.{flat_map}
 use Rattle.std.specs.Duration.{as_nanos}
 use Rattle.std.proofs.Common.{◌++◌, refl, sym, subst}

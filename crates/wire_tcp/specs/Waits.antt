@@ -1,5 +1,5 @@
 -- For how long a peer was waited for, by the readings of a clock.
-use Rattle.std.specs.Prelude.{◌≡◌, ◌⊎◌, ℕ, ◌-◌, ◌<◌, Bool, true, false, List, [], ◌∷◌, ◌++◌, length, Option, Some, None, ⊤}
+use Rattle.std.specs.Prelude.{◌≡◌, ◌⊎◌, ℕ, ◌+◌, ◌-◌, ◌<◌, ◌≤◌, Bool, true, false, List, [], ◌∷◌, ◌++◌, length, Option, Some, None, IsSomeAnd, unwrap_or, ⊤}
 use Rattle.std.specs.List.{flat_map, AllByRecursion}
 use Rattle.office_wire.specs.Order.{Follows}
 use Rattle.wire_tcp.specs.Limits.{Limits, IsWithin}
@@ -50,6 +50,17 @@ spent_in w = between w.begun w.ended
 abbrev pub FitWithin : Option ℕ → List Wait → Type 0
 FitWithin time [] = ⊤
 FitWithin time (w ∷ waits) = IsWithin time w.limit × FitWithin (less time (spent_in w)) waits
+
+-- what was spent in waits, as far as that is known
+abbrev pub total : List Wait → ℕ
+total [] = 0
+total (w ∷ waits) = unwrap_or (spent_in w) 0 + total waits
+
+-- No wait may end later than the time that there was for all of them: what was spent in those before it and what it is allowed are no more
+-- together; or it is allowed nothing.
+abbrev pub WaitsEndInTime : Type 0
+WaitsEndInTime = (time : ℕ) (earlier : List Wait) (w : Wait) (later : List Wait) → FitWithin (Some time) (earlier ++ w ∷ later)
+    → IsSomeAnd w.limit (λ limit. (limit ≡ 0) ⊎ (total earlier + limit ≤ time))
 
 -- ---- a request and its response
 

@@ -4,6 +4,7 @@
 
 mod age;
 mod cause;
+mod laws;
 mod limits;
 mod lingering;
 mod listener;
@@ -14,6 +15,7 @@ mod serving;
 mod trace;
 
 pub use cause::{Cause, Diagnosis, Undiagnosed};
+pub use laws::waits_end_in_time;
 pub use limits::{longest_of, patience_of};
 pub use lingering::linger;
 pub use listener::Listener;

@@ -1,6 +1,6 @@
 //! Serving callers over TCP, one connection after the other.
 
-ghost use Rattle.std.specs.Prelude.{◌≡◌, ◌+◌, ◌<◌, ◌≤◌, ℕ, List, [], ◌∷◌, Option, length, option_map};
+ghost use Rattle.std.specs.Prelude.{◌≡◌, ◌+◌, ◌<◌, ℕ, List, [], ◌∷◌, Option, length, option_map};
 ghost use Rattle.std.specs.Duration.{as_nanos};
 ghost use Rattle.office_model.specs.Tables.{Keeps, Kept};
 ghost use Rattle.office_wire.specs.Exchange.{Turn, Run};
@@ -18,8 +18,8 @@ ghost use Rattle.wire_tcp.specs.Connections.{connection_line, ended_line, fault_
 use crate::age::{AgeLimit, AgeOf, Watched};
 use crate::cause::Diagnosis;
 use crate::listener::Listener;
-use crate::patience::PatientStream;
 use crate::pace::Age;
+use crate::patience::PatientStream;
 use crate::peer::{Peer, Watch};
 use crate::trace::{tell_servfails, write_texts};
 use cli_core::{JobFault, LineFault, write_refusal};

@@ -1,6 +1,6 @@
 use Rattle.std.proofs.Common.{rules, ◌∙◌, refl}
 use Rattle.wire_tcp.specs.Deadlines.{paced_join}
-use Rattle.wire_tcp.proofs.PatienceLemmas.{no_read, idle_then_read, idle_again_read}
+use Rattle.wire_tcp.proofs.PatienceLemmas.{idle_then_read, idle_again_read}
 use Rattle.wire_tcp.proofs.patience.PatientStream.read_again.Goals as goal
 
 pub returns-then-not-is_interrupted-clause-read : goal.returns-then-not-is_interrupted-clause-read

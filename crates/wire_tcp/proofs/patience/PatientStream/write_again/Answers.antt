@@ -1,6 +1,6 @@
-use Rattle.std.proofs.Common.{rules, ◌∙◌, refl}
+use Rattle.std.proofs.Common.{◌∙◌, refl}
 use Rattle.wire_tcp.specs.Deadlines.{paced_join}
-use Rattle.wire_tcp.proofs.PatienceLemmas.{no_write, idle_then_write, idle_again_write}
+use Rattle.wire_tcp.proofs.PatienceLemmas.{idle_then_write, idle_again_write}
 use Rattle.wire_tcp.proofs.patience.PatientStream.write_again.Goals as goal
 
 pub returns-then-not-is_interrupted-clause-written : goal.returns-then-not-is_interrupted-clause-written

@@ -1,4 +1,4 @@
-use Rattle.std.proofs.Common.{◌≡◌, ◌<◌, length}
+use Rattle.std.proofs.Common.{◌≡◌}
 use Rattle.wire_tcp.specs.Deadlines.{ArePaced}
 use Rattle.wire_tcp.proofs.PatienceLemmas.{IdleWrites}
 use Rattle.wire_tcp.proofs.patience.PatientStream.write_again.Given as goal

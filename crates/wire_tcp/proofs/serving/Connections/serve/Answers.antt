@@ -1,7 +1,6 @@
 use Rattle.std.proofs.KnownBytes.{Appends-nil}
-use Rattle.std.proofs.Common.{◌≡◌, ◌<◌, ◌≤◌, ◌∙◌, [], ◌∷◌, ◌++◌, length, Err, Option, List, option_map, refl, sym, subst, arith}
+use Rattle.std.proofs.Common.{◌≡◌, ◌<◌, ◌∙◌, [], ◌∷◌, ◌++◌, length, Err, refl, sym, arith}
 use Rattle.std.proofs.lemmas.Result.{err_from_is_err_and}
-use Rattle.office_wire.specs.declared.serve_fault.ServeFault.{ServeFault}
 use Rattle.wire_tcp.specs.Connections.{Visit, fault_of, ends}
 use Rattle.wire_tcp.proofs.ConnectionLemmas.{visits_more, are_served, one_more, one_ended, ends_more, ends_length, traced_none, traced_once, traced_more, told_more, told_visit, told_in_part, told_last}
 use Rattle.wire_tcp.proofs.serving.Connections.serve.Goals as goal

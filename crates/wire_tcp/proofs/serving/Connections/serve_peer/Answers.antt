@@ -1,5 +1,4 @@
-use Rattle.std.proofs.Common.{Option, List, ℕ, [], ◌∷◌, refl, subst}
-use Rattle.office_wire.specs.Order.{Follows}
+use Rattle.std.proofs.Common.{refl}
 use Rattle.wire_tcp.proofs.ServedLemmas.{served_as}
 use Rattle.wire_tcp.proofs.serving.Connections.serve_peer.Goals as goal
 

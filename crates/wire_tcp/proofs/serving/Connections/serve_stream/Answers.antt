@@ -20,4 +20,4 @@ pub returns-clause-waited : goal.returns-clause-waited
 returns-clause-waited g c =
     let new = c.new-stream.ensures in
     waits_as _ _ _ _ _ _ _ new.patience new.longest (c.put_watch.ensures.waits ∙ ap (λ p. (g.P.Peer.times p).waits) c.into_peer-peer.ensures)
-        (are_waits c.new-stream.result.pace _ _ _ _ _ new.first (new.left ∙ sym new.patience) new.connected c.serve_stream-served.ensures.kept.1)
+    (are_waits c.new-stream.result.pace _ _ _ _ _ new.first (new.left ∙ sym new.patience) new.connected c.serve_stream-served.ensures.kept.1)
