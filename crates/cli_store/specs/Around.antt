@@ -1,5 +1,5 @@
 -- What is around the program, and who calls it there.
-use Rattle.std.specs.Prelude.{List, Option, Result}
+use Rattle.std.specs.Prelude.{ℕ, List, Option, Result}
 use Rattle.std.specs.declared.net.socket_addr.SocketAddr.{SocketAddr}
 use Rattle.office_wire.specs.declared.ending.Ending.{Ending}
 use Rattle.office_wire.specs.declared.serve_fault.ServeFault.{ServeFault}
