@@ -36,7 +36,8 @@ use Rattle.cli_store.specs.Migrate.{StoreMigrated}
 use Rattle.cli_store.specs.Program.{StoreJobEnds, JobEnds, WordsEnd, status_of}
 use Rattle.cli_store.specs.Puts.{put_into, with_put}
 use Rattle.cli_store.specs.Reports.{IsReported}
-use Rattle.cli_store.specs.Serve.{TableAt, policy_read, most_of, parties_of, asked_by, IsServiceTold, IsServedBy, BeginsBy, Serves}
+use Rattle.wire_tcp.specs.Limits.{Limits}
+use Rattle.cli_store.specs.Serve.{TableAt, policy_read, most_of, parties_of, limits_by, asked_by, IsServiceTold, IsServedBy, BeginsBy, Serves}
 use Rattle.cli_store.specs.StoreList.{IsListRead, ZonesPrinted}
 use Rattle.cli_store.specs.StoreLog.{IsLogged, IsLogRead, LogPrinted}
 use Rattle.cli_store.specs.Stores.{StoresOf, IsRead, IsPut, IsUnopened, IsReached, IsUnreached, IsStored, IsGot, IsMigratedStore, stores_of}
@@ -213,7 +214,7 @@ module _ {A F C H P : Type 0} (w : Setting A F C H P) (law : (conn : C) → Sett
     not_served service outcome why same = (nothing, inl (why, is_nothing), same)
 
     -- how the table stood before a service and after it
-    module _ (rules : List Rule) (patience : Option ℕ) (visits : List Visit) (table table_after : TableAt C) (listener listener_after : H) (kept : Kept) where
+    module _ (rules : List Rule) (limits : Limits) (visits : List Visit) (table table_after : TableAt C) (listener listener_after : H) (kept : Kept) where
       abbrev before_it : Moment (TableAt C) H
       before_it = moment_of table (record { state = s; other = Some s }) listener
 
@@ -229,7 +230,7 @@ module _ {A F C H P : Type 0} (w : Setting A F C H P) (law : (conn : C) → Sett
       }
 
       -- the calls that were answered, and what was in hand, lead to what is on the disk
-      lived_so : AreServed (parties_of w.shows w.callers) rules patience visits before_it after_it → LeavesOr (LeavesStates (w.shows table_after.conn)) kept.state kept.other
+      lived_so : AreServed (parties_of w.shows w.callers) rules limits visits before_it after_it → LeavesOr (LeavesStates (w.shows table_after.conn)) kept.state kept.other
           → HasCleanDisk (w.shows table_after.conn) → (w.shows table_after.conn).may_leave next
           → (hand : List Call) × IsHand (joined visits) hand × HasState next (state_after_deeds s (called_by rules (calls (joined visits)) ++ called_by rules hand))
       lived_so served leaves sure may_be =
@@ -273,8 +274,8 @@ module _ {A F C H P : Type 0} (w : Setting A F C H P) (law : (conn : C) → Sett
           not_served service outcome ((idle.1, idle.2), inr (address, e, front, more)) (idle_still idle.0)
       told read (inr (listener, address, heard, inr (mid, line, reported, listener_after, served))) =
           let all = served sure first held_first in
-          let patience = (asked_by service rules (w.callers.cut listener)).patience in
-          let ends = lived_so rules patience all.0 by.before by.left listener listener_after all.1 all.3 all.2.1 left_sure left_may in (
+          let limits = limits_by service in
+          let ends = lived_so rules limits all.0 by.before by.left listener listener_after all.1 all.3 all.2.1 left_sure left_may in (
             record { told = called_by rules (calls (joined all.0)); hand = called_by rules ends.0 },
             inr (record {
               rules = rules;

@@ -9,7 +9,7 @@ use Rattle.grant_policy.specs.Documents.{document_of}
 use Rattle.grant_policy.specs.Reading.{policy_of}
 use Rattle.office_wire.specs.declared.serve_fault.ServeFault.{ServeFault}
 use Rattle.store_faults.specs.declared.store_fault.StoreFault.{StoreFault}
-use Rattle.wire_tcp.specs.Limits.{patience_in}
+use Rattle.wire_tcp.specs.Limits.{Limits, patience_in, longest_in}
 use Rattle.wire_tcp.specs.Connections.{Asked, Parties, Writing, AreReported, AreServedFrom}
 use Rattle.cli_core.specs.declared.commands.serve.Service.{Service}
 use Rattle.cli_core.specs.declared.refusal.Refusal.{Refusal}
@@ -71,14 +71,21 @@ parties_of shows p = record {
   gives = p.gives;
   ends = p.ends;
   flow = p.flow;
-  limits = p.limits;
+  times = p.times;
 }
 
--- what the words ask for: so many connections, answered by these rules, and each peer waited for so long
+-- for how long the words let a peer be waited for, and how old a connection get, in nanoseconds
+abbrev pub limits_by : Service → Limits
+limits_by service = record {
+  patience = option_map (λ n. n * 1000000000) (patience_in service.patience);
+  longest = option_map (λ n. n * 1000000000) (longest_in service.longest);
+}
+
+-- what the words ask for: so many connections, answered by these rules, within these limits
 abbrev pub asked_by : Service → List Rule → Type 0 → Asked
 asked_by service rules cut = record {
   rules = rules;
-  patience = option_map (λ n. n * 1000000000) (patience_in service.patience);
+  limits = limits_by service;
   most = most_of service;
   cut = cut;
 }

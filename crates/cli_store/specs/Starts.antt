@@ -53,7 +53,7 @@ use Rattle.cli_store.specs.Import.{imported_line}
 use Rattle.cli_store.specs.Program.{Reading, Ends, IsIdle, WordsEnd}
 use Rattle.cli_store.specs.Puts.{put_into, with_put}
 use Rattle.cli_store.specs.Reports.{IsReported}
-use Rattle.cli_store.specs.Serve.{TableAt, policy_read, most_of, listening_line, IsHeard, asked_by, parties_of}
+use Rattle.cli_store.specs.Serve.{TableAt, policy_read, most_of, listening_line, IsHeard, limits_by, parties_of}
 use Rattle.cli_store.specs.Stores.{stores_of}
 
 -- ---- what is on the disk
@@ -230,7 +230,7 @@ pub record IsServed {C H P : Type 0} (shows : C → Shown) (a : Around H) (p : C
   pub listener_after : H
   pub kept : Kept
   pub visits : List Visit
-  pub served : AreServed (parties_of shows p) rules (asked_by service rules (p.cut listener)).patience visits (moment_of table (record { state = s; other = Some s }) listener) (moment_of table_after kept listener_after)
+  pub served : AreServed (parties_of shows p) rules (limits_by service) visits (moment_of table (record { state = s; other = Some s }) listener) (moment_of table_after kept listener_after)
   pub reported : AreReported (p.cut listener) (most_of service) (ends visits) mid o.new outcome o.before o.after
   pub traced : AreTraced visits t
   pub told : c.told ≡ called_by rules (calls (joined visits))

@@ -427,7 +427,7 @@ fn done<M: Surroundings, S: Alter + Drop, P: StoreFiles<S> + Drop, R: Source, W:
     trace: &mut E,
 ) -> (Option<Connection<S>>, Result<(), JobFault>)
     ensures { StoreJobEnds (M.around around.now)
-        (record { cut = M.Listener.cut; gives = M.Listener.gives; ends = M.Listener.ends; flow = M.Listener.Peer.flow; limits = M.Listener.Peer.limits })
+        (record { cut = M.Listener.cut; gives = M.Listener.gives; ends = M.Listener.ends; flow = M.Listener.Peer.flow; times = M.Listener.Peer.times })
         (stores_of (state S.Store) (P.finds files) (P.refuses files) (P.connects files))
         (record { left = R.remaining input.old; rest = R.remaining input.new; before = R.failures input.old; after = R.failures input.new })
         (record { old = W.contents output.old; new = W.contents output.new; before = W.failures output.old; after = W.failures output.new })
@@ -466,7 +466,7 @@ pub fn do_store_job<
 ) -> (Option<Connection<S>>, ExitCode)
     // Each job answers to its own words, and what the connection shows is what it left of the store of its path.
     ensures { StoreJobEnds (M.around around.now)
-        (record { cut = M.Listener.cut; gives = M.Listener.gives; ends = M.Listener.ends; flow = M.Listener.Peer.flow; limits = M.Listener.Peer.limits })
+        (record { cut = M.Listener.cut; gives = M.Listener.gives; ends = M.Listener.ends; flow = M.Listener.Peer.flow; times = M.Listener.Peer.times })
         (stores_of (state S.Store) (P.finds files) (P.refuses files) (P.connects files))
         (record { left = R.remaining input.old; rest = R.remaining input.new; before = R.failures input.old; after = R.failures input.new })
         (record { old = W.contents output.old; new = W.contents output.new; before = W.failures output.old; after = W.failures output.new })
@@ -494,7 +494,7 @@ pub fn do_job<
     trace: &mut E,
 ) -> (Option<Connection<S>>, ExitCode)
     ensures { JobEnds (M.around around.now)
-        (record { cut = M.Listener.cut; gives = M.Listener.gives; ends = M.Listener.ends; flow = M.Listener.Peer.flow; limits = M.Listener.Peer.limits })
+        (record { cut = M.Listener.cut; gives = M.Listener.gives; ends = M.Listener.ends; flow = M.Listener.Peer.flow; times = M.Listener.Peer.times })
         (stores_of (state S.Store) (P.finds files) (P.refuses files) (P.connects files))
         (record { left = R.remaining input.old; rest = R.remaining input.new; before = R.failures input.old; after = R.failures input.new })
         (record { old = W.contents output.old; new = W.contents output.new; before = W.failures output.old; after = W.failures output.new })
@@ -558,7 +558,7 @@ pub fn do_words<
     trace: &mut E,
 ) -> (Option<Connection<S>>, ExitCode)
     ensures { WordsEnd (M.around around.now)
-        (record { cut = M.Listener.cut; gives = M.Listener.gives; ends = M.Listener.ends; flow = M.Listener.Peer.flow; limits = M.Listener.Peer.limits })
+        (record { cut = M.Listener.cut; gives = M.Listener.gives; ends = M.Listener.ends; flow = M.Listener.Peer.flow; times = M.Listener.Peer.times })
         (stores_of (state S.Store) (P.finds files) (P.refuses files) (P.connects files))
         (record { left = R.remaining input.old; rest = R.remaining input.new; before = R.failures input.old; after = R.failures input.new })
         (record { old = W.contents output.old; new = W.contents output.new; before = W.failures output.old; after = W.failures output.new })

@@ -7,7 +7,7 @@ ghost use Rattle.office_wire.specs.declared.serve_fault.ServeFault.{ServeFault a
 ghost use Rattle.sqlite.specs.Held.{state};
 ghost use Rattle.cli_core.specs.LineFaults.{GivesOf};
 ghost use Rattle.cli_store.specs.Stores.{stores_of};
-ghost use Rattle.wire_tcp.specs.Limits.{patience_in};
+ghost use Rattle.wire_tcp.specs.Limits.{patience_in, longest_in, limits_in};
 ghost use Rattle.wire_tcp.specs.Connections.{AreReported, AreServedFrom};
 ghost use Rattle.cli_store.specs.Serve.{policy_read, most_of, listening_line, IsHeard, IsNoListener, IsServiceTold, IsServedBy, BeginsBy, Serves};
 
@@ -113,6 +113,7 @@ fn connections_of<'a, M: Surroundings, D>(
     ensures policy { result.policy.now ≡ policy.now }
     ensures most { result.most ≡ most_of service.now }
     ensures patience { option_map as_nanos result.patience ≡ option_map (λ n. n * 1_000_000_000) (patience_in service.now.patience) }
+    ensures longest { option_map as_nanos result.longest ≡ option_map (λ n. n * 1_000_000_000) (longest_in service.now.longest) }
     ensures diagnosis { result.diagnosis.now ≡ diagnosis.now }
 {
     Connections {
@@ -157,9 +158,9 @@ fn serve_listening<
           gives = K.gives;
           ends = K.ends;
           flow = K.Peer.flow;
-          limits = K.Peer.limits;
+          times = K.Peer.times;
         })
-        (record { rules = connections.now.policy.now; patience = option_map as_nanos connections.now.patience; most = connections.now.most; cut = K.cut socket })
+        (record { rules = connections.now.policy.now; limits = limits_in connections.now.patience connections.now.longest; most = connections.now.most; cut = K.cut socket })
         table.old socket table.new after result
         (record { old = W.contents writer.old; new = W.contents writer.new; before = W.failures writer.old; after = W.failures writer.new })
         (record { old = E.contents trace.old; new = E.contents trace.new; before = E.failures trace.old; after = E.failures trace.new })) }
@@ -196,11 +197,11 @@ fn serve_table<M: Surroundings, T: ZoneTable, D: Diagnosis<T>, W: Sink, E: Sink>
           gives = M.Listener.gives;
           ends = M.Listener.ends;
           flow = M.Listener.Peer.flow;
-          limits = M.Listener.Peer.limits;
+          times = M.Listener.Peer.times;
         })
         (record {
           rules = connections.now.policy.now;
-          patience = option_map as_nanos connections.now.patience;
+          limits = limits_in connections.now.patience connections.now.longest;
           most = connections.now.most;
           cut = M.Listener.cut listener;
         })
@@ -229,7 +230,7 @@ fn serve_opened<M: Surroundings, S: Alter + Drop, L: Ledger, W: Sink, E: Sink>(
     trace: &mut E,
 ) -> (Connection<S>, Result<(), JobFault>)
     ensures { IsServedBy (state S.Store) (M.around around.now)
-        (record { cut = M.Listener.cut; gives = M.Listener.gives; ends = M.Listener.ends; flow = M.Listener.Peer.flow; limits = M.Listener.Peer.limits })
+        (record { cut = M.Listener.cut; gives = M.Listener.gives; ends = M.Listener.ends; flow = M.Listener.Peer.flow; times = M.Listener.Peer.times })
         service.entry policy.now table.conn result.0
         (record { old = W.contents writer.old; new = W.contents writer.new; before = W.failures writer.old; after = W.failures writer.new }) result.1
         (record { old = E.contents trace.old; new = E.contents trace.new; before = E.failures trace.old; after = E.failures trace.new }) }
@@ -262,7 +263,7 @@ fn serve_by<M: Surroundings, S: Alter + Drop, P: StoreFiles<S> + Drop, L: Ledger
     requires parts { blank.parts ≡ L.parts }
     requires some { 0 < blank.parts }
     ensures { BeginsBy (M.around around.now)
-        (record { cut = M.Listener.cut; gives = M.Listener.gives; ends = M.Listener.ends; flow = M.Listener.Peer.flow; limits = M.Listener.Peer.limits })
+        (record { cut = M.Listener.cut; gives = M.Listener.gives; ends = M.Listener.ends; flow = M.Listener.Peer.flow; times = M.Listener.Peer.times })
         (stores_of (state S.Store) (P.finds files) (P.refuses files) (P.connects files)) service.entry policy.now result.0
         (record { old = W.contents writer.old; new = W.contents writer.new; before = W.failures writer.old; after = W.failures writer.new }) result.1
         (record { old = E.contents trace.old; new = E.contents trace.new; before = E.failures trace.old; after = E.failures trace.new }) }
@@ -297,7 +298,7 @@ pub fn serve<M: Surroundings, S: Alter + Drop, P: StoreFiles<S> + Drop, W: Sink,
     // that policy, as `Connections::serve` says, which is what the store is left with, and what a crash leaves of it; and their lines are
     // written.
     ensures { Serves (M.around around.now)
-        (record { cut = M.Listener.cut; gives = M.Listener.gives; ends = M.Listener.ends; flow = M.Listener.Peer.flow; limits = M.Listener.Peer.limits })
+        (record { cut = M.Listener.cut; gives = M.Listener.gives; ends = M.Listener.ends; flow = M.Listener.Peer.flow; times = M.Listener.Peer.times })
         (stores_of (state S.Store) (P.finds files) (P.refuses files) (P.connects files)) service.entry result.0
         (record { old = W.contents writer.old; new = W.contents writer.new; before = W.failures writer.old; after = W.failures writer.new }) result.1
         (record { old = E.contents trace.old; new = E.contents trace.new; before = E.failures trace.old; after = E.failures trace.new }) }

@@ -17,7 +17,7 @@ use sqlite::Alter;
 pub fn starts_have_one_history<M: Surroundings, S: Alter + Drop, P: StoreFiles<S> + Drop>()
     ensures history { StartsHaveOneHistory (record {
       around = M.around;
-      callers = record { cut = M.Listener.cut; gives = M.Listener.gives; ends = M.Listener.ends; flow = M.Listener.Peer.flow; limits = M.Listener.Peer.limits };
+      callers = record { cut = M.Listener.cut; gives = M.Listener.gives; ends = M.Listener.ends; flow = M.Listener.Peer.flow; times = M.Listener.Peer.times };
       shows = state S.Store;
       finds = P.finds;
       refuses = P.refuses;

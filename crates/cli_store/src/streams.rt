@@ -64,7 +64,7 @@ fn run_counted<
     requires traces_parts { traces.parts ≡ C.parts }
     requires traces_some { 0 < traces.parts }
     ensures { IsRun (M.around around.now)
-        (record { cut = M.Listener.cut; gives = M.Listener.gives; ends = M.Listener.ends; flow = M.Listener.Peer.flow; limits = M.Listener.Peer.limits })
+        (record { cut = M.Listener.cut; gives = M.Listener.gives; ends = M.Listener.ends; flow = M.Listener.Peer.flow; times = M.Listener.Peer.times })
         (stores_of (state S.Store) (P.finds files) (P.refuses files) (P.connects files)) result.0
         (I.remaining streams.input) (I.remaining result.1.input) (O.contents streams.output) (O.contents result.1.output)
         (E.contents streams.trace) (E.contents result.1.trace) (map (λ s. s.now) words.now) (exit_status result.2) }
@@ -98,7 +98,7 @@ pub fn run_words<
 >(around: &M, files: P, words: &[&str], streams: Streams<I, O, E>) -> Left<S, I, O, E>
     // It ends as `do_words` does, with these words, each stream in its own place.
     ensures { IsRun (M.around around.now)
-        (record { cut = M.Listener.cut; gives = M.Listener.gives; ends = M.Listener.ends; flow = M.Listener.Peer.flow; limits = M.Listener.Peer.limits })
+        (record { cut = M.Listener.cut; gives = M.Listener.gives; ends = M.Listener.ends; flow = M.Listener.Peer.flow; times = M.Listener.Peer.times })
         (stores_of (state S.Store) (P.finds files) (P.refuses files) (P.connects files)) result.0
         (I.remaining streams.input) (I.remaining result.1.input) (O.contents streams.output) (O.contents result.1.output)
         (E.contents streams.trace) (E.contents result.1.trace) (map (λ s. s.now) words.now) (exit_status result.2) }

@@ -5,8 +5,8 @@ ghost use Rattle.std.specs.Prelude.{Some, None, drop};
 use dns_master::Pieces;
 use std::alloc::Global;
 use std::io::{self, Read, Write};
-use std::time::Duration;
-use wire_tcp::Peer;
+use std::time::{Clock, Duration};
+use wire_tcp::{Peer, Unnoted};
 
 /// A caller in memory.
 #[derive(Drop)]
@@ -18,9 +18,15 @@ pub struct Caller {
 }
 
 impl Peer for Caller {
+    type Watch = Unnoted;
+
     ghost flow = { λ c. record { remaining = Some (drop c.sent.read c.sent.octets.items); contents = Some c.got.octets.items; events = None } };
 
-    ghost limits = { λ _. None };
+    ghost times = { λ _. record { waits = None; ages = None } };
+
+    fn now<C: Clock>(&mut self, clock: &C) -> Option<Duration> {
+        clock.monotonic().ok()
+    }
 
     fn read_within(&mut self, buffer: &mut [u8], _limit: Option<Duration>) -> io::Result<usize> {
         self.sent.read(buffer)
@@ -29,6 +35,12 @@ impl Peer for Caller {
     fn write_within(&mut self, octets: &[u8], _limit: Option<Duration>) -> io::Result<usize> {
         self.got.write(octets)
     }
+
+    fn take_watch(&mut self) -> Unnoted {
+        Unnoted
+    }
+
+    fn put_watch(&mut self, _watch: Unnoted) {}
 }
 
 impl Caller {

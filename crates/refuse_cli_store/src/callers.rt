@@ -1,8 +1,8 @@
 //! Connections of callers in memory, of whom all is known.
 
-ghost use Rattle.std.specs.Prelude.{◌≡◌, ◌+◌, ◌-◌, ◌<◌, ◌≤◌, List, Option, Some, ⊤, length, option_map, slice_get, slice_set, vec_len};
-ghost use Rattle.std.specs.Duration.{as_nanos};
+ghost use Rattle.std.specs.Prelude.{◌≡◌, ◌+◌, ◌-◌, ◌<◌, ◌≤◌, List, Option, Some, ⊤, length, slice_get, slice_set, vec_len};
 ghost use Rattle.office_wire.specs.declared.serve_fault.ServeFault.{ServeFault as FaultOf};
+ghost use Rattle.wire_tcp.specs.Limits.{limits_in};
 ghost use Rattle.wire_tcp.specs.Connections.{AreReported, AreServedFrom};
 ghost use Rattle.refuse_cli_store.specs.declared.caller.Caller.{Caller as CallerOf};
 
@@ -82,11 +82,11 @@ pub fn serve_callers<L: Ledger, T: ZoneTable, D: Diagnosis<T>, C: Clock, W: Sink
           gives = ⟦<Callers<L> as Listener>⟧.gives;
           ends = ⟦<Callers<L> as Listener>⟧.ends;
           flow = ⟦<Caller as Peer>⟧.flow;
-          limits = ⟦<Caller as Peer>⟧.limits;
+          times = ⟦<Caller as Peer>⟧.times;
         })
         (record {
           rules = connections.now.policy.now;
-          patience = option_map as_nanos connections.now.patience;
+          limits = limits_in connections.now.patience connections.now.longest;
           most = connections.now.most;
           cut = ⊤;
         })

@@ -4,6 +4,7 @@
 
 pub mod caller;
 pub mod callers;
+pub mod listeners;
 
 ghost use Rattle.std.specs.Prelude.{◌≡◌, ◌+◌, List, Option, IfOk, IfErr, length, map, string_bytes};
 ghost use Rattle.std.specs.declared.net.socket_addr.SocketAddr.{SocketAddr};
@@ -36,7 +37,7 @@ pub fn do_job<
     trace: &mut E,
 ) -> (Option<Connection<S>>, ExitCode)
     ensures { JobEnds (M.around around.now)
-        (record { cut = M.Listener.cut; gives = M.Listener.gives; ends = M.Listener.ends; flow = M.Listener.Peer.flow; limits = M.Listener.Peer.limits })
+        (record { cut = M.Listener.cut; gives = M.Listener.gives; ends = M.Listener.ends; flow = M.Listener.Peer.flow; times = M.Listener.Peer.times })
         (stores_of (state S.Store) (P.finds files) (P.refuses files) (P.connects files))
         (record { left = R.remaining input.old; rest = R.remaining input.new; before = R.failures input.old; after = R.failures input.new })
         (record { old = W.contents output.old; new = W.contents output.new; before = W.failures output.old; after = W.failures output.new })
@@ -63,7 +64,7 @@ pub fn do_words<
     trace: &mut E,
 ) -> (Option<Connection<S>>, ExitCode)
     ensures { WordsEnd (M.around around.now)
-        (record { cut = M.Listener.cut; gives = M.Listener.gives; ends = M.Listener.ends; flow = M.Listener.Peer.flow; limits = M.Listener.Peer.limits })
+        (record { cut = M.Listener.cut; gives = M.Listener.gives; ends = M.Listener.ends; flow = M.Listener.Peer.flow; times = M.Listener.Peer.times })
         (stores_of (state S.Store) (P.finds files) (P.refuses files) (P.connects files))
         (record { left = R.remaining input.old; rest = R.remaining input.new; before = R.failures input.old; after = R.failures input.new })
         (record { old = W.contents output.old; new = W.contents output.new; before = W.failures output.old; after = W.failures output.new })

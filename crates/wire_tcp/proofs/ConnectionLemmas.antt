@@ -1,7 +1,7 @@
 -- Connections that were served, one after the other.
 use Rattle.std.specs.Io.KnownBytes.{Appends}
 use Rattle.std.proofs.KnownBytes.{Appends-nil, Appends-trans}
-use Rattle.std.proofs.Common.{◌≡◌, ◌<◌, ◌≤◌, ◌+◌, inl, inr, ◌∙◌, ℕ, suc, List, [], ◌∷◌, ◌++◌, length, Option, Result, Ok, Err, refl, sym, ap, subst, append-nil, append_assoc, length-append, arith}
+use Rattle.std.proofs.Common.{◌≡◌, ◌<◌, ◌≤◌, ◌+◌, inl, inr, ◌∙◌, ℕ, suc, List, [], ◌∷◌, ◌++◌, length, Option, Result, Ok, Err, refl, sym, ap, subst, append-nil, length-append, arith}
 use Rattle.std.proofs.lemmas.Grind.{flat_map-append}
 use Rattle.std.proofs.lemmas.List.{map-append}
 use Rattle.grant_policy.specs.declared.rule.Rule.{Rule}
@@ -9,7 +9,6 @@ use Rattle.office_model.specs.States.{AreZones, AreReceipts}
 use Rattle.office_wire.specs.Exchange.{Turn, Run}
 use Rattle.office_wire.proofs.JoinLemmas.{run_join}
 use Rattle.office_wire.proofs.PromiseLemmas.{exchanges_run}
-use Rattle.cli_core.specs.declared.line_fault.LineFault.{LineFault}
 use Rattle.cli_core.specs.declared.line_fault.LineFault.TheVariants.{Refused, ReadFailed, NoMemory}
 use Rattle.cli_core.specs.declared.line_fault.JobFault.{JobFault}
 use Rattle.cli_core.specs.declared.line_fault.JobFault.TheVariants.{Reported, WriteFailed}
@@ -22,6 +21,7 @@ use Rattle.office_wire.specs.declared.servfails.Servfails.{Servfails}
 use Rattle.office_wire.specs.Servfails.{servfails, AreNoted}
 use Rattle.cli_core.specs.Replies.{IsSent}
 use Rattle.wire_tcp.specs.Causes.{trace_by}
+use Rattle.wire_tcp.specs.Limits.{Limits}
 use Rattle.wire_tcp.specs.Connections.{Visit, fault_of, Parties, Moment, standing_at, IsVisit, AreVisits, joined, ends, trace_at, traces, ended_line, ended_lines, AreServed, AreReported, AreTraced}
 
 rises : (before after : ℕ) → before < after → after ≡ before → ⊥
@@ -40,21 +40,21 @@ pub ends_length : (visits : List Visit) → length (ends visits) ≡ length visi
 ends_length [] = refl
 ends_length (v ∷ visits) = ap suc (ends_length visits)
 
-module _ {T H P : Type 0} (w : Parties T H P) (rules : List Rule) (patience : Option ℕ) where
+module _ {T H P : Type 0} (w : Parties T H P) (rules : List Rule) (limits : Limits) where
   -- one more after the others
-  pub visits_more : (visits : List Visit) (v : Visit) (a m b : Moment T H) → AreVisits w rules patience visits a m → IsVisit w rules patience v m b
-      → AreVisits w rules patience (visits ++ v ∷ []) a b
-  visits_more [] v a m b p q = (b, subst (λ (x : Moment T H). IsVisit w rules patience v x b) p q, refl)
+  pub visits_more : (visits : List Visit) (v : Visit) (a m b : Moment T H) → AreVisits w rules limits visits a m → IsVisit w rules limits v m b
+      → AreVisits w rules limits (visits ++ v ∷ []) a b
+  visits_more [] v a m b p q = (b, subst (λ (x : Moment T H). IsVisit w rules limits v x b) p q, refl)
   visits_more (u ∷ visits) v a m b p q = (p.0, p.1, visits_more visits v p.0 m b p.2 q)
 
   -- their turns are a run
-  visits_run : (visits : List Visit) (a b : Moment T H) → AreVisits w rules patience visits a b → Run rules (standing_at w a) (joined visits) (standing_at w b)
+  visits_run : (visits : List Visit) (a b : Moment T H) → AreVisits w rules limits visits a b → Run rules (standing_at w a) (joined visits) (standing_at w b)
   visits_run [] a b p = ap (λ (m : Moment T H). standing_at w m) p
   visits_run (v ∷ visits) a b p =
       run_join rules (standing_at w a) (standing_at w p.0) (standing_at w b) v.turns (joined visits) p.1.run (visits_run visits p.0 b p.2)
 
-  pub are_served : (visits : List Visit) (a b : Moment T H) → AreZones a.kept.state → AreReceipts a.kept.state → AreVisits w rules patience visits a b
-      → AreServed w rules patience visits a b
+  pub are_served : (visits : List Visit) (a b : Moment T H) → AreZones a.kept.state → AreReceipts a.kept.state → AreVisits w rules limits visits a b
+      → AreServed w rules limits visits a b
   are_served visits a b zones receipts p =
       let ran = visits_run visits a b p in
       record { each = p; run = ran; promised = exchanges_run rules (standing_at w a) (standing_at w b) (joined visits) zones receipts ran }

@@ -1,3 +1,6 @@
 pub mod PatienceLemmas
+pub mod WaitLemmas
+pub mod AgeLemmas
+pub mod ServedLemmas
 pub mod SendLemmas
 pub mod ConnectionLemmas

@@ -1,5 +1,5 @@
 -- Reads and writes that are begun again where they were cut short.
-use Rattle.std.proofs.Common.{◌≡◌, ◌∙◌, ℕ, zero, suc, List, [], ◌∷◌, ◌++◌, replicate, Option, Some, None, Result, Ok, Err, IsErrAnd, refl, sym, ap, subst, append-nil, append_assoc}
+use Rattle.std.proofs.Common.{◌≡◌, ◌∙◌, ℕ, zero, suc, List, [], ◌∷◌, ◌++◌, replicate, Option, Some, None, Result, Ok, Err, IsErrAnd, refl, ap, subst, append-nil}
 use Rattle.std.specs.Io.KnownBytes.{Keeps, Appends, ReadConsumes, WriteAppends}
 use Rattle.office_wire.specs.Order.{Event, read, written, Flow, Follows, moved, ReadsOnce, WritesOnce}
 use Rattle.office_wire.proofs.OrderLemmas.{follows_none, follows_join}

@@ -20,7 +20,9 @@ use Rattle.cli_core.specs.Replies.{line_of}
 use Rattle.office_model.specs.States.{State}
 use Rattle.office_model.specs.Tables.{Keeps, Kept}
 use Rattle.wire_tcp.specs.Causes.{trace_of}
-use Rattle.wire_tcp.specs.Limits.{AreWithin}
+use Rattle.wire_tcp.specs.Limits.{Limits}
+use Rattle.wire_tcp.specs.Waits.{Times, AreWaits}
+use Rattle.wire_tcp.specs.Ages.{AreAges}
 
 -- the fault's published number
 abbrev pub connection_line : ServeFault → List ℕ
@@ -48,7 +50,7 @@ fault_of (Ok ending) = None
 fault_of (Err fault) = Some fault
 
 -- What a table holds, what a crash leaves of it, how many of its calls have failed, and why the last of them did; which peer a listener
--- gives, and which it takes back, with how its connection ended; and what is known of a peer, and of the limits of its reads and writes.
+-- gives, and which it takes back, with how its connection ended; and what is known of a peer, and of time at it.
 pub record Parties (T H P : Type 0) : Type 1 where
   pub holds : T → State → Type 0
   pub leaves : T → State → State → Type 0
@@ -57,7 +59,7 @@ pub record Parties (T H P : Type 0) : Type 1 where
   pub gives : H → P → H → Type 0
   pub ends : H → P → Result Ending ServeFault → H → Type 0
   pub flow : P → Flow
-  pub limits : P → Option (List (Option ℕ))
+  pub times : P → Times
 
 -- a moment between two connections: the table, a state that it holds and what a crash leaves of it, and the listener
 pub record Moment (T H : Type 0) : Type 0 where
@@ -70,25 +72,26 @@ standing_at w m = standing m.kept (w.failures m.table)
 
 -- A connection between two moments. Its peer was the next that the listener gave, and was handed back to it with how it ended. The turns
 -- are the requests that this peer sent, and what was written to it are their responses, each before more is read. They are answered by the
--- rules and the state of the moment before, and lead to that of the moment after. No read or write was allowed to wait longer than the
--- patience.
-pub record IsVisit {T H P : Type 0} (w : Parties T H P) (rules : List Rule) (patience : Option ℕ) (v : Visit) (before after : Moment T H) : Type 0 where
+-- rules and the state of the moment before, and lead to that of the moment after. The peer was waited for within the limits, and was asked
+-- for another request only while its connection was young, and else its connection ended.
+pub record IsVisit {T H P : Type 0} (w : Parties T H P) (rules : List Rule) (limits : Limits) (v : Visit) (before after : Moment T H) : Type 0 where
   pub came : P
   pub went : P
   pub between : H
   pub given : w.gives before.listener came between
   pub back : w.ends between went v.ended after.listener
   pub served : IsStreamServed v.turns v.ended (w.flow came) (w.flow went)
-  pub patient : AreWithin patience (w.limits came) (w.limits went)
+  pub waited : AreWaits limits (w.times came).waits (w.times went).waits
+  pub aged : AreAges limits.longest v.turns v.ended (w.times came).ages (w.times went).ages
   pub run : Run rules (standing_at w before) v.turns (standing_at w after)
   pub keeps : Keeps (w.holds after.table) (w.leaves after.table) after.kept
   pub store : v.store ≡ w.fault after.table
 
 -- one connection after the other
-abbrev pub AreVisits : {T H P : Type 0} → Parties T H P → List Rule → Option ℕ → List Visit → Moment T H → Moment T H → Type 0
-AreVisits w rules patience [] before after = after ≡ before
-AreVisits {T} {H} w rules patience (v ∷ visits) before after =
-    (m : Moment T H) × IsVisit w rules patience v before m × AreVisits w rules patience visits m after
+abbrev pub AreVisits : {T H P : Type 0} → Parties T H P → List Rule → Limits → List Visit → Moment T H → Moment T H → Type 0
+AreVisits w rules limits [] before after = after ≡ before
+AreVisits {T} {H} w rules limits (v ∷ visits) before after =
+    (m : Moment T H) × IsVisit w rules limits v before m × AreVisits w rules limits visits m after
 
 -- ---- all of them
 
@@ -120,8 +123,8 @@ pub record AreTraced (visits : List Visit) (o : Writing) : Type 0 where
   pub written : o.after ≡ o.before → Appends o.old o.new (traces visits)
 
 -- Connections between two moments, and what the office promises of calls, which holds of all of them together.
-pub record AreServed {T H P : Type 0} (w : Parties T H P) (rules : List Rule) (patience : Option ℕ) (visits : List Visit) (before after : Moment T H) : Type 0 where
-  pub each : AreVisits w rules patience visits before after
+pub record AreServed {T H P : Type 0} (w : Parties T H P) (rules : List Rule) (limits : Limits) (visits : List Visit) (before after : Moment T H) : Type 0 where
+  pub each : AreVisits w rules limits visits before after
   pub run : Run rules (standing_at w before) (joined visits) (standing_at w after)
   pub promised : ArePromised rules before.kept.state (joined visits) after.kept.state
 
@@ -137,10 +140,10 @@ AreReported cut most ends old new (Err WriteFailed) before after =
     (((length ends ≤ most) × AppendsFront old new (ended_lines ends)) ⊎ (cut × (length ends < most) × AppendsFront old new (ended_lines ends ++ line_of ReadFailed)))
     × (before < after)
 
--- The rules, the patience, how many connections were asked for, and that no further one can be had.
+-- The rules, the limits, how many connections were asked for, and that no further one can be had.
 pub record Asked : Type 1 where
   pub rules : List Rule
-  pub patience : Option ℕ
+  pub limits : Limits
   pub most : ℕ
   pub cut : Type 0
 
@@ -151,5 +154,5 @@ pub record Asked : Type 1 where
 abbrev pub AreServedFrom : {T H P : Type 0} → Parties T H P → Asked → T → H → T → H → Result (Unit {0}) JobFault → Writing → Writing → Type 0
 AreServedFrom w asked table listener table_after listener_after result lines trace =
     (s : Kept) → Keeps (w.holds table) (w.leaves table) s → (visits : List Visit) × (t : Kept) × Keeps (w.holds table_after) (w.leaves table_after) t
-    × AreServed w asked.rules asked.patience visits (record { table = table; kept = s; listener = listener }) (record { table = table_after; kept = t; listener = listener_after })
+    × AreServed w asked.rules asked.limits visits (record { table = table; kept = s; listener = listener }) (record { table = table_after; kept = t; listener = listener_after })
     × AreReported asked.cut asked.most (ends visits) lines.old lines.new result lines.before lines.after × AreTraced visits trace

@@ -1,4 +1,7 @@
 pub mod Limits
+pub mod Waits
+pub mod Deadlines
+pub mod Ages
 pub mod Lingering
 pub mod Causes
 pub mod Connections

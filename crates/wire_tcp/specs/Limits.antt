@@ -1,9 +1,7 @@
 -- For how long a peer is waited for, and how old a connection gets.
-use Rattle.std.specs.Prelude.{ℕ, ◌≤◌, zero, suc, min, List, Option, Some, None, MatchOption, IsSomeAnd, ⊤}
-use Rattle.std.specs.List.{AllByRecursion}
-use Rattle.std.proofs.Common.{[], ◌∷◌, ◌++◌}
-use Rattle.office_wire.specs.Order.{Follows}
-use Rattle.office_wire.proofs.OrderLemmas.{follows_none, follows_join}
+use Rattle.std.specs.Prelude.{ℕ, ◌≤◌, zero, suc, min, Option, Some, None, option_map, MatchOption, IsSomeAnd, ⊤}
+use Rattle.std.specs.Duration.{as_nanos}
+use Rattle.std.specs.declared.time.Duration.{Duration}
 
 -- A number of seconds, and the usual one where none is given: no limit for 0, and at most 1,000,000,000.
 abbrev pub seconds_in : ℕ → Option ℕ → Option ℕ
@@ -19,22 +17,14 @@ patience_in given = seconds_in 30 given
 abbrev pub longest_in : Option ℕ → Option ℕ
 longest_in given = seconds_in 60 given
 
--- a limit of a read or a write is at most the patience, where there is one
+-- for how long a peer is waited for, and at what age a connection ends, each where there is a limit
+pub record Limits : Type 0 where
+  pub patience : Option ℕ
+  pub longest : Option ℕ
+
+abbrev pub limits_in : Option Duration → Option Duration → Limits
+limits_in patience longest = record { patience = option_map as_nanos patience; longest = option_map as_nanos longest }
+
+-- a limit of a read or a write is at most a time, where there is one
 abbrev pub IsWithin : Option ℕ → Option ℕ → Type 0
-IsWithin patience limit = MatchOption patience ⊤ (λ longest. IsSomeAnd limit (λ time. time ≤ longest))
-
--- Each limit that was set between two moments is at most the patience, where the limits are known.
-abbrev pub AreWithin : Option ℕ → Option (List (Option ℕ)) → Option (List (Option ℕ)) → Type 0
-AreWithin patience before now = (limits : List (Option ℕ)) × Follows before now limits × AllByRecursion (IsWithin patience) limits
-
--- it holds between a moment and itself
-pub within_none : (patience : Option ℕ) (a : Option (List (Option ℕ))) → AreWithin patience a a
-within_none patience a = ([], follows_none a, tt)
-
-all_join : (P : Option ℕ → Type 0) (xs ys : List (Option ℕ)) → AllByRecursion P xs → AllByRecursion P ys → AllByRecursion P (xs ++ ys)
-all_join P [] ys p q = q
-all_join P (x ∷ xs) ys p q = (p.0, all_join P xs ys p.1 q)
-
--- and between the first and the last of three, if between each two
-pub within_joins : (patience : Option ℕ) (a b c : Option (List (Option ℕ))) → AreWithin patience a b → AreWithin patience b c → AreWithin patience a c
-within_joins patience a b c p q = (p.0 ++ q.0, follows_join a b c p.0 q.0 p.1 q.1, all_join (IsWithin patience) p.0 q.0 p.2 q.2)
+IsWithin most limit = MatchOption most ⊤ (λ longest. IsSomeAnd limit (λ time. time ≤ longest))

@@ -4,18 +4,21 @@
 
 mod age;
 mod cause;
+mod laws;
 mod limits;
 mod lingering;
 mod listener;
+mod pace;
 mod patience;
 mod peer;
 mod serving;
 mod trace;
 
 pub use cause::{Cause, Diagnosis, Undiagnosed};
+pub use laws::waits_end_in_time;
 pub use limits::{longest_of, patience_of};
 pub use lingering::linger;
 pub use listener::Listener;
-pub use peer::Peer;
+pub use peer::{Peer, Unnoted, Watch};
 pub use serving::Connections;
 pub use trace::write_texts;

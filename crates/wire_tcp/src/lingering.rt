@@ -4,7 +4,7 @@
 ghost use Rattle.std.specs.Prelude.{◌≡◌, ◌<◌};
 ghost use Rattle.wire_tcp.specs.Lingering.{Drops};
 
-use crate::age::Age;
+use crate::pace::Age;
 use dns_master::{Counted, Source};
 use std::io::{self, Read};
 use std::marker::Brand;
@@ -22,12 +22,14 @@ const MOST: usize = 1_048_576;
 #[derive(Drop)]
 struct Rest<'a, C: Clock> {
     stream: &'a TcpStream,
-    age: Age<'a, C>,
+    clock: &'a C,
+    age: Age,
 }
 
 impl<C: Clock> Read for &Rest<'_, C> {
     fn read(&mut self, buffer: &mut [u8]) -> io::Result<usize> {
-        self.stream.set_read_timeout(self.age.left())?;
+        let now = self.clock.monotonic().ok();
+        self.stream.set_read_timeout(self.age.left(now))?;
         let mut stream = self.stream;
         stream.read(buffer)
     }
@@ -62,8 +64,11 @@ fn drop_counted<C: Clock, L: Ledger>(rest: &Rest<'_, C>, blank: Blank)
 /// A failure is nothing to report: the responses were written.
 pub fn linger<C: Clock>(stream: &TcpStream, clock: &C) {
     if stream.shutdown(Shutdown::Write).is_ok() {
-        let age = Age::new(clock, Some(Duration::from_secs(LONGEST)));
-        let rest = Rest { stream, age };
+        let age = Age {
+            begun: clock.monotonic().ok(),
+            longest: Some(Duration::from_secs(LONGEST)),
+        };
+        let rest = Rest { stream, clock, age };
         drop_counted::<C, Brand>(&rest, Blank::new(1));
     }
 }

@@ -1,65 +1,27 @@
 //! Connections whose peers are waited for, but not for ever.
 
-ghost use Rattle.std.specs.Prelude.{◌↔◌, ◌≡◌, ◌<◌, ℕ, Option, IsTrue, IsErrAnd, option_map, length};
+ghost use Rattle.std.specs.Prelude.{◌↔◌, ◌≡◌, ◌<◌, [], ◌∷◌, IsTrue, IsErrAnd, option_map, length};
 ghost use Rattle.std.specs.Duration.{as_nanos};
 ghost use Rattle.std.specs.Io.{ReadsAtMost, WritesAtMost};
 ghost use Rattle.std.specs.IoError.{error_kind};
-ghost use Rattle.office_wire.specs.Order.{ReadsOnce, WritesOnce};
+ghost use Rattle.office_wire.specs.Order.{Follows, ReadsOnce, WritesOnce};
 ghost use Rattle.std.proofs.Common.{◌∙◌, refl, subst};
-ghost use Rattle.std.proofs.Props.{props};
-ghost use Rattle.wire_tcp.specs.Limits.{IsWithin, AreWithin, within_none, within_joins};
+ghost use Rattle.wire_tcp.specs.declared.pace.Awaited.TheVariants.{First};
+ghost use Rattle.wire_tcp.specs.declared.pace.Pace.{Pace as PaceOf};
+ghost use Rattle.wire_tcp.specs.Waits.{clock as reading_of};
+ghost use Rattle.wire_tcp.specs.Deadlines.{ArePaced, paced_none, paced_join};
 
-use crate::age::Age;
+use crate::pace::{Age, Awaited, Pace, Running, between};
 use crate::peer::Peer;
 use dns_master::DeviceFailed;
 use office_wire::Stream;
 use std::io::{self, ErrorKind};
 use std::sync::ledger::{Blank, Book, Ledger, Share};
-use std::time::{Clock, Duration, Instant};
+use std::time::{Clock, Duration};
 
 /// How often in a row a read or a write is begun again that a signal has cut short. A process that is stopped and goes on, as for a
 /// backup, has its waits cut short so, where they have a limit (signal(7)).
 const INTERRUPTIONS: u32 = 1_000;
-
-/// What a peer is waited for.
-#[derive(Clone, Copy, PartialEq, Eq)]
-enum Awaited {
-    /// That a request begins.
-    Request,
-    /// That the rest of it comes.
-    Rest,
-    /// That responses are taken.
-    Taking,
-}
-
-/// What a peer is waited for, and for how long still, where there is a limit.
-#[derive(Clone, Copy)]
-struct Wait {
-    awaited: Awaited,
-    left: Option<Duration>,
-}
-
-/// The shorter of two times, where each may have no limit.
-fn shorter(a: Option<Duration>, b: Option<Duration>) -> Option<Duration>
-    ensures { IsWithin (option_map as_nanos a) (option_map as_nanos result) }
-{
-    match (a, b) {
-        (Some(a), Some(b)) => Some(a.min(b)),
-        (Some(a), None) => Some(a),
-        (None, b) => b,
-    }
-}
-
-/// What is left of a time, where there is a limit, once so much of it is spent: nothing where a clock failed.
-fn rest_of(left: Option<Duration>, spent: io::Result<Duration>) -> Option<Duration>
-    ensures { (patience : Option ℕ) → IsWithin patience (option_map as_nanos left) → IsWithin patience (option_map as_nanos result) }
-{
-    let left = left?;
-    match spent {
-        Ok(spent) => Some(left.saturating_sub(spent)),
-        Err(_) => Some(Duration::ZERO),
-    }
-}
 
 /// Whether a signal has cut a read or a write short.
 fn is_interrupted(done: &io::Result<usize>) -> bool
@@ -78,15 +40,13 @@ fn is_interrupted(done: &io::Result<usize>) -> bool
 pub(crate) struct PatientStream<'a, P, C: Clock, L: Ledger> {
     peer: P,
     clock: &'a C,
-    patience: Option<Duration>,
-    age: Age<'a, C>,
-    wait: Wait,
+    pace: Pace,
+    running: Running,
     book: Book<L>,
     reads: Share<L>,
     writes: Share<L>,
     ghost counts_reads: { 0 < reads.parts },
     ghost counts_writes: { 0 < writes.parts },
-    ghost patient: { IsWithin (option_map as_nanos patience) (option_map as_nanos wait.left) } by { Prim.hlevel props },
 }
 
 impl<'a, P: Peer, C: Clock, L: Ledger> PatientStream<'a, P, C, L> {
@@ -101,29 +61,33 @@ impl<'a, P: Peer, C: Clock, L: Ledger> PatientStream<'a, P, C, L> {
         requires name { blank.name ≡ L.name }
         requires parts { blank.parts ≡ L.parts }
         requires some { 1 < blank.parts }
-        ensures peer { result.peer ≡ peer }
-        ensures patience { result.patience ≡ patience }
+        ensures flow { P.flow result.peer ≡ P.flow peer }
+        ensures ages { (P.times result.peer).ages ≡ (P.times peer).ages }
+        ensures connected { Follows (P.times peer).waits (P.times result.peer).waits (reading_of (option_map as_nanos result.pace.age.begun) ∷ []) }
+        ensures patience { result.pace.patience ≡ patience }
+        ensures longest { result.pace.age.longest ≡ longest }
+        ensures first { result.running.awaited ≡ First }
+        ensures left { result.running.left ≡ patience }
     {
+        let mut peer = peer;
+        let begun = peer.now(clock);
         let (book, mut reads) = blank.open::<L>();
         let writes = reads.split_off(1, 0);
         PatientStream {
             peer,
             clock,
-            patience,
-            age: Age::new(clock, longest),
-            wait: Wait {
-                awaited: Awaited::Request,
+            pace: Pace {
+                patience,
+                age: Age { begun, longest },
+            },
+            running: Running {
+                awaited: Awaited::First,
                 left: patience,
             },
             book,
             reads,
             writes,
         }
-    }
-
-    /// How old the connection is.
-    pub(crate) fn age(&self) -> Age<'a, C> {
-        self.age.again()
     }
 
     /// The peer.
@@ -133,58 +97,23 @@ impl<'a, P: Peer, C: Clock, L: Ledger> PatientStream<'a, P, C, L> {
         self.peer
     }
 
-    /// For how long a peer is still waited for that is to send something.
-    fn to_read(&self) -> Wait
-        ensures { IsWithin (option_map as_nanos self.now.patience) (option_map as_nanos result.left) }
-    {
-        if self.wait.awaited == Awaited::Taking {
-            Wait {
-                awaited: Awaited::Request,
-                left: shorter(self.patience, self.age.left()),
-            }
-        } else {
-            self.wait
-        }
-    }
-
-    /// For how long a peer is still waited for that is to take something.
-    fn to_write(&self) -> Wait
-        ensures { IsWithin (option_map as_nanos self.now.patience) (option_map as_nanos result.left) }
-    {
-        if self.wait.awaited == Awaited::Taking {
-            self.wait
-        } else {
-            Wait {
-                awaited: Awaited::Taking,
-                left: self.patience,
-            }
-        }
-    }
-
     /// Reads once. Where nothing is left to wait that is an error.
     fn read_once(&mut self, buffer: &mut [u8]) -> io::Result<usize>
         requires { 0 < length buffer.old }
         ensures bound { ReadsAtMost result buffer.new }
         ensures read { ReadsOnce (P.flow self.old.peer) (P.flow self.new.peer) result buffer.new }
-        ensures limited { AreWithin (option_map as_nanos self.old.patience) (P.limits self.old.peer) (P.limits self.new.peer) }
-        ensures patience { self.new.patience ≡ self.old.patience }
+        ensures paced { ArePaced self.old.pace self.old.running self.new.running (P.times self.old.peer).waits (P.times self.new.peer).waits }
+        ensures ages { (P.times self.new.peer).ages ≡ (P.times self.old.peer).ages }
+        ensures pace { self.new.pace ≡ self.old.pace }
         ensures reads { self.new.reads ≡ self.old.reads }
         ensures writes { self.new.writes ≡ self.old.writes }
     {
-        let wait = self.to_read();
-        let begun = Instant::now(self.clock)?;
-        let read = self.peer.read_within(buffer, wait.left);
-        self.wait = if read.is_ok() && wait.awaited == Awaited::Request {
-            Wait {
-                awaited: Awaited::Rest,
-                left: self.patience,
-            }
-        } else {
-            Wait {
-                awaited: wait.awaited,
-                left: rest_of(wait.left, begun.elapsed(self.clock)),
-            }
-        };
+        let running = self.running.while_reading(self.pace.patience);
+        let begun = self.peer.now(self.clock);
+        let limit = self.pace.limit(running, begun);
+        let read = self.peer.read_within(buffer, limit);
+        let ended = self.peer.now(self.clock);
+        self.running = running.after(between(begun, ended), read.is_ok(), self.pace.patience);
         read
     }
 
@@ -193,18 +122,18 @@ impl<'a, P: Peer, C: Clock, L: Ledger> PatientStream<'a, P, C, L> {
         requires { 0 < length octets.now }
         ensures bound { WritesAtMost result octets.now }
         ensures written { WritesOnce (P.flow self.old.peer) (P.flow self.new.peer) result octets.now }
-        ensures limited { AreWithin (option_map as_nanos self.old.patience) (P.limits self.old.peer) (P.limits self.new.peer) }
-        ensures patience { self.new.patience ≡ self.old.patience }
+        ensures paced { ArePaced self.old.pace self.old.running self.new.running (P.times self.old.peer).waits (P.times self.new.peer).waits }
+        ensures ages { (P.times self.new.peer).ages ≡ (P.times self.old.peer).ages }
+        ensures pace { self.new.pace ≡ self.old.pace }
         ensures reads { self.new.reads ≡ self.old.reads }
         ensures writes { self.new.writes ≡ self.old.writes }
     {
-        let wait = self.to_write();
-        let begun = Instant::now(self.clock)?;
-        let written = self.peer.write_within(octets, wait.left);
-        self.wait = Wait {
-            awaited: wait.awaited,
-            left: rest_of(wait.left, begun.elapsed(self.clock)),
-        };
+        let running = self.running.while_writing(self.pace.patience);
+        let begun = self.peer.now(self.clock);
+        let limit = self.pace.limit(running, begun);
+        let written = self.peer.write_within(octets, limit);
+        let ended = self.peer.now(self.clock);
+        self.running = running.after(between(begun, ended), written.is_ok(), self.pace.patience);
         written
     }
 
@@ -213,8 +142,9 @@ impl<'a, P: Peer, C: Clock, L: Ledger> PatientStream<'a, P, C, L> {
         requires { 0 < length buffer.old }
         ensures bound { ReadsAtMost result buffer.new }
         ensures read { ReadsOnce (P.flow self.old.peer) (P.flow self.new.peer) result buffer.new }
-        ensures limited { AreWithin (option_map as_nanos self.old.patience) (P.limits self.old.peer) (P.limits self.new.peer) }
-        ensures patience { self.new.patience ≡ self.old.patience }
+        ensures paced { ArePaced self.old.pace self.old.running self.new.running (P.times self.old.peer).waits (P.times self.new.peer).waits }
+        ensures ages { (P.times self.new.peer).ages ≡ (P.times self.old.peer).ages }
+        ensures pace { self.new.pace ≡ self.old.pace }
         ensures reads { self.new.reads ≡ self.old.reads }
         ensures writes { self.new.writes ≡ self.old.writes }
     {
@@ -232,8 +162,9 @@ impl<'a, P: Peer, C: Clock, L: Ledger> PatientStream<'a, P, C, L> {
         requires { 0 < length octets.now }
         ensures bound { WritesAtMost result octets.now }
         ensures written { WritesOnce (P.flow self.old.peer) (P.flow self.new.peer) result octets.now }
-        ensures limited { AreWithin (option_map as_nanos self.old.patience) (P.limits self.old.peer) (P.limits self.new.peer) }
-        ensures patience { self.new.patience ≡ self.old.patience }
+        ensures paced { ArePaced self.old.pace self.old.running self.new.running (P.times self.old.peer).waits (P.times self.new.peer).waits }
+        ensures ages { (P.times self.new.peer).ages ≡ (P.times self.old.peer).ages }
+        ensures pace { self.new.pace ≡ self.old.pace }
         ensures reads { self.new.reads ≡ self.old.reads }
         ensures writes { self.new.writes ≡ self.old.writes }
     {
@@ -254,7 +185,7 @@ impl<P: Peer, C: Clock, L: Ledger> Stream for PatientStream<'_, P, C, L> {
 
     ghost failed_writes = { λ s. s.writes.amount };
 
-    ghost keeps = { λ s t. (t.patience ≡ s.patience) × AreWithin (option_map as_nanos s.patience) (P.limits s.peer) (P.limits t.peer) };
+    ghost keeps = { λ s t. (t.pace ≡ s.pace) × ArePaced s.pace s.running t.running (P.times s.peer).waits (P.times t.peer).waits × ((P.times t.peer).ages ≡ (P.times s.peer).ages) };
 
     fn read_some(&mut self, buffer: &mut [u8]) -> Result<usize, DeviceFailed> {
         match self.read_again(buffer) {
@@ -281,11 +212,12 @@ impl<P: Peer, C: Clock, L: Ledger> Stream for PatientStream<'_, P, C, L> {
         }
     }
 
-    ghost same = { λ s. (refl, within_none (option_map as_nanos s.patience) (P.limits s.peer)) };
+    ghost same = { λ s. (refl, paced_none s.pace s.running (P.times s.peer).waits, refl) };
 
     ghost joins = { λ a b c p q. (
       q.0 ∙ p.0,
-      within_joins (option_map as_nanos a.patience) (P.limits a.peer) (P.limits b.peer) (P.limits c.peer) p.1
-          (subst (λ patience. AreWithin (option_map as_nanos patience) (P.limits b.peer) (P.limits c.peer)) p.0 q.1),
+      paced_join a.pace a.running b.running c.running (P.times a.peer).waits (P.times b.peer).waits (P.times c.peer).waits p.1
+          (subst (λ (pace : PaceOf). ArePaced pace b.running c.running (P.times b.peer).waits (P.times c.peer).waits) p.0 q.1),
+      q.2 ∙ p.2,
     ) };
 }

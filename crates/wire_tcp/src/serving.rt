@@ -1,22 +1,26 @@
 //! Serving callers over TCP, one connection after the other.
 
-ghost use Rattle.std.specs.Prelude.{◌≡◌, ◌+◌, ◌<◌, ◌≤◌, List, Option, length, option_map};
+ghost use Rattle.std.specs.Prelude.{◌≡◌, ◌+◌, ◌<◌, ℕ, List, [], ◌∷◌, Option, length, option_map};
 ghost use Rattle.std.specs.Duration.{as_nanos};
 ghost use Rattle.office_model.specs.Tables.{Keeps, Kept};
 ghost use Rattle.office_wire.specs.Exchange.{Turn, Run};
 ghost use Rattle.office_wire.specs.Responders.{rules_of, Fits};
 ghost use Rattle.office_wire.specs.Serving.{standing, IsStreamServed};
+ghost use Rattle.office_wire.specs.Order.{Follows};
 ghost use Rattle.office_wire.specs.Servfails.{AreNoted, servfails};
 ghost use Rattle.office_wire.specs.declared.serve_fault.ServeFault.{ServeFault as FaultOf};
 ghost use Rattle.cli_core.specs.Replies.{IsSent};
-ghost use Rattle.wire_tcp.specs.Limits.{AreWithin};
+ghost use Rattle.wire_tcp.specs.Limits.{limits_in};
+ghost use Rattle.wire_tcp.specs.Waits.{AreWaits};
+ghost use Rattle.wire_tcp.specs.Ages.{AreAges};
 ghost use Rattle.wire_tcp.specs.Connections.{connection_line, ended_line, fault_of, AreReported, AreServedFrom};
 
-use crate::age::AgeLimit;
+use crate::age::{AgeLimit, AgeOf, Watched};
 use crate::cause::Diagnosis;
 use crate::listener::Listener;
+use crate::pace::Age;
 use crate::patience::PatientStream;
-use crate::peer::Peer;
+use crate::peer::{Peer, Watch};
 use crate::trace::{tell_servfails, write_texts};
 use cli_core::{JobFault, LineFault, write_refusal};
 use dns_master::{DeviceFailed, Sink};
@@ -71,18 +75,19 @@ pub struct Connections<'a, C: Clock, D> {
     pub clock: &'a C,
     /// For how long a peer is waited for that sends no request or takes no response, where there is a limit.
     pub patience: Option<Duration>,
-    /// At what age a connection ends between two requests, where there is a limit. Its clock counts from when it was accepted.
+    /// At what age a connection ends between two requests, where there is a limit. It counts from when the connection was accepted.
     pub longest: Option<Duration>,
     /// What tells why the store of the table failed.
     pub diagnosis: &'a D,
 }
 
 impl<C: Clock, D> Connections<'_, C, D> {
-    /// Serves the stream of a peer, and hands the peer back.
-    fn serve_stream<P: Peer + Drop, T: ZoneTable, A: Ledger, B: Ledger>(
+    /// Serves the stream of a peer whose age is told by its watch, and hands the peer back with it.
+    fn serve_stream<P: Peer + Drop, T: ZoneTable, A: Ledger, B: Ledger, Q: AgeOf>(
         &self,
         responder: &mut Responder<'_>,
         peer: P,
+        watched: Watched<P::Watch>,
         table: &mut T,
         blanks: (Blank, Blank),
     ) -> (P, Served)
@@ -92,14 +97,29 @@ impl<C: Clock, D> Connections<'_, C, D> {
         requires asks_name { blanks.1.name ≡ B.name }
         requires asks_parts { blanks.1.parts ≡ B.parts }
         requires asks_some { 1 < blanks.1.parts }
+        requires longest { option_map as_nanos self.now.longest ≡ Q.longest }
+        requires begun { option_map as_nanos watched.begun ≡ Q.begun }
+        requires before { P.Watch.Watch.readings watched.watch ≡ Q.before }
         ensures run { T.is_honest table.new → (s : Kept) → Keeps (T.holds table.old) (T.leaves table.old) s × Fits responder.old s.state
             → (turns : List Turn) × (t : Kept) × (Keeps (T.holds table.new) (T.leaves table.new) t × Fits responder.new t.state)
             × Run (rules_of responder.old) (standing s (T.failures table.old)) turns (standing t (T.failures table.new))
-            × AreNoted (servfails turns) result.1.servfails × IsStreamServed turns result.1.ended (P.flow peer) (P.flow result.0) }
-        ensures patient { AreWithin (option_map as_nanos self.now.patience) (P.limits peer) (P.limits result.0) }
+            × AreNoted (servfails turns) result.1.servfails × IsStreamServed turns result.1.ended (P.flow peer) (P.flow result.0)
+            × ((start : Option (List (Option ℕ))) → Follows start Q.before (Q.begun ∷ [])
+            → AreAges (option_map as_nanos self.now.longest) turns result.1.ended start (P.times result.0).ages) }
+        ensures waited { AreWaits (limits_in self.now.patience self.now.longest) (P.times peer).waits (P.times result.0).waits }
         ensures rules { rules_of responder.new ≡ rules_of responder.old }
         ensures honest { T.is_honest table.new → T.is_honest table.old }
     {
+        let age = Age {
+            begun: watched.begun,
+            longest: self.longest,
+        };
+        let mut limit: AgeLimit<'_, C, P::Watch, B, Q> = AgeLimit::new(
+            self.clock,
+            watched.watch,
+            age,
+            blanks.1,
+        );
         let mut stream: PatientStream<'_, P, C, A> = PatientStream::new(
             peer,
             self.clock,
@@ -107,9 +127,10 @@ impl<C: Clock, D> Connections<'_, C, D> {
             self.longest,
             blanks.0,
         );
-        let mut deadline: AgeLimit<'_, C, B> = AgeLimit::new(stream.age(), blanks.1);
-        let served = responder.serve_stream(&mut stream, table, &mut deadline);
-        (stream.into_peer(), served)
+        let served = responder.serve_stream(&mut stream, table, &mut limit);
+        let mut peer = stream.into_peer();
+        peer.put_watch(limit.into_watch());
+        (peer, served)
     }
 
     /// Serves a peer, and hands it back.
@@ -122,13 +143,18 @@ impl<C: Clock, D> Connections<'_, C, D> {
         ensures run { T.is_honest table.new → (s : Kept) → Keeps (T.holds table.old) (T.leaves table.old) s × Fits responder.old s.state
             → (turns : List Turn) × (t : Kept) × (Keeps (T.holds table.new) (T.leaves table.new) t × Fits responder.new t.state)
             × Run (rules_of responder.old) (standing s (T.failures table.old)) turns (standing t (T.failures table.new))
-            × AreNoted (servfails turns) result.1.servfails × IsStreamServed turns result.1.ended (P.flow peer) (P.flow result.0) }
-        ensures patient { AreWithin (option_map as_nanos self.now.patience) (P.limits peer) (P.limits result.0) }
+            × AreNoted (servfails turns) result.1.servfails × IsStreamServed turns result.1.ended (P.flow peer) (P.flow result.0)
+            × AreAges (option_map as_nanos self.now.longest) turns result.1.ended (P.times peer).ages (P.times result.0).ages }
+        ensures waited { AreWaits (limits_in self.now.patience self.now.longest) (P.times peer).waits (P.times result.0).waits }
         ensures rules { rules_of responder.new ≡ rules_of responder.old }
         ensures honest { T.is_honest table.new → T.is_honest table.old }
     {
+        let mut peer = peer;
+        let mut watch = peer.take_watch();
+        let begun = watch.now(self.clock);
+        let watched = Watched { watch, begun };
         let blanks = (Blank::new(2), Blank::new(2));
-        self.serve_stream::<_, _, Brand, Brand>(responder, peer, table, blanks)
+        self.serve_stream::<_, _, Brand, Brand, Brand>(responder, peer, watched, table, blanks)
     }
 
     /// Serves connections one after the other. A line tells each that ended by a fault. `ReadFailed` is written where a connection cannot
@@ -146,8 +172,9 @@ impl<C: Clock, D> Connections<'_, C, D> {
         // Where the store has kept its word: each peer that the listener gave is served, and what it was sent are the responses to the
         // requests that it sent, in order. They are answered by the policy and the states that they found, one connection after the other,
         // which leads the table from how it stood to how it stands, and so what a crash leaves of it; and what the office promises of calls
-        // holds of all of them together, whichever connection each came by. A line is written for each connection that a fault ended, and
-        // the trace tells of those of the requests that were answered SERVFAIL.
+        // holds of all of them together, whichever connection each came by. By the clock, each peer is waited for within the patience and
+        // the age, and asked for another request only below the age. A line is written for each connection that a fault ended, and the
+        // trace tells of those of the requests that were answered SERVFAIL.
         ensures served { T.is_honest table.new → AreServedFrom
             (record {
               holds = T.holds;
@@ -157,9 +184,9 @@ impl<C: Clock, D> Connections<'_, C, D> {
               gives = H.gives;
               ends = H.ends;
               flow = H.Peer.flow;
-              limits = H.Peer.limits;
+              times = H.Peer.times;
             })
-            (record { rules = self.now.policy.now; patience = option_map as_nanos self.now.patience; most = self.now.most; cut = H.cut listener.old })
+            (record { rules = self.now.policy.now; limits = limits_in self.now.patience self.now.longest; most = self.now.most; cut = H.cut listener.old })
             table.old listener.old table.new listener.new result
             (record { old = W.contents writer.old; new = W.contents writer.new; before = W.failures writer.old; after = W.failures writer.new })
             (record { old = E.contents trace.old; new = E.contents trace.new; before = E.failures trace.old; after = E.failures trace.new }) }

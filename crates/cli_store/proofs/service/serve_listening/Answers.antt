@@ -5,7 +5,7 @@ pub returns-clause-served : goal.returns-clause-served
 returns-clause-served g c = (
   c.serve.new.listener.socket,
   λ honest. rw c.new-listener.ensures.socket at (served_of
-      (record { holds = g.T.ZoneTable.holds; leaves = g.T.ZoneTable.leaves; failures = g.T.ZoneTable.failures; fault = g.D.Diagnosis.fault c.args.connections.now.diagnosis.now; gives = g.K.Socket.gives; ends = g.K.Socket.ends; flow = g.K.Peer.Peer.flow; limits = g.K.Peer.Peer.limits })
+      (record { holds = g.T.ZoneTable.holds; leaves = g.T.ZoneTable.leaves; failures = g.T.ZoneTable.failures; fault = g.D.Diagnosis.fault c.args.connections.now.diagnosis.now; gives = g.K.Socket.gives; ends = g.K.Socket.ends; flow = g.K.Peer.Peer.flow; times = g.K.Peer.Peer.times })
       (λ t. t) (λ l. l.socket) _ _ _ _ _ _ _ _ (c.serve.ensures.served honest)),
 )
 

@@ -6,7 +6,7 @@ use Rattle.cli_store.proofs.start_laws.starts_have_one_history.Goals as goal
 pub returns-clause-history : goal.returns-clause-history
 returns-clause-history g c = the.starts_have_one_history (record {
   around = g.M.Surroundings.around;
-  callers = record { cut = g.M.Listener.Socket.cut; gives = g.M.Listener.Socket.gives; ends = g.M.Listener.Socket.ends; flow = g.M.Listener.Peer.Peer.flow; limits = g.M.Listener.Peer.Peer.limits };
+  callers = record { cut = g.M.Listener.Socket.cut; gives = g.M.Listener.Socket.gives; ends = g.M.Listener.Socket.ends; flow = g.M.Listener.Peer.Peer.flow; times = g.M.Listener.Peer.Peer.times };
   shows = state g.S.Store;
   finds = g.P.StoreFiles.finds;
   refuses = g.P.StoreFiles.refuses;

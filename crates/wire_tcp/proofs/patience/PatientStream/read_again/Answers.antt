@@ -1,6 +1,6 @@
 use Rattle.std.proofs.Common.{rules, ◌∙◌, refl}
-use Rattle.wire_tcp.specs.Limits.{within_joins}
-use Rattle.wire_tcp.proofs.PatienceLemmas.{no_read, idle_then_read, idle_again_read}
+use Rattle.wire_tcp.specs.Deadlines.{paced_join}
+use Rattle.wire_tcp.proofs.PatienceLemmas.{idle_then_read, idle_again_read}
 use Rattle.wire_tcp.proofs.patience.PatientStream.read_again.Goals as goal
 
 pub returns-then-not-is_interrupted-clause-read : goal.returns-then-not-is_interrupted-clause-read
@@ -13,12 +13,19 @@ cut-preserved g c =
     let failed = (rw c.if-not-is_interrupted.false at c.is_interrupted.ensures).0 refl in
     record {
       idle = idle_again_read _ _ _ _ _ _ failed i.idle e.read;
-      limited = within_joins _ _ _ _ i.limited (rw i.patience at e.limited);
+      paced = paced_join _ _ _ _ _ _ _ i.paced (rw i.pace at e.paced);
+      ages = e.ages ∙ i.ages;
       room = search rules;
-      patience = e.patience ∙ i.patience;
+      pace = e.pace ∙ i.pace;
       reads = e.reads ∙ i.reads;
       writes = e.writes ∙ i.writes;
     }
 
 pub returns-clause-read : goal.returns-clause-read
 returns-clause-read g c = idle_then_read _ _ _ _ _ c.cut.invariant.idle c.read_once.ensures.read
+
+pub returns-then-not-is_interrupted-clause-paced : goal.returns-then-not-is_interrupted-clause-paced
+returns-then-not-is_interrupted-clause-paced g c = paced_join _ _ _ _ _ _ _ c.cut.invariant.paced (rw c.cut.invariant.pace at c.read_once-read.ensures.paced)
+
+pub returns-clause-paced : goal.returns-clause-paced
+returns-clause-paced g c = paced_join _ _ _ _ _ _ _ c.cut.invariant.paced (rw c.cut.invariant.pace at c.read_once.ensures.paced)

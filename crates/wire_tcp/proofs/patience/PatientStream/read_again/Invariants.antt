@@ -1,15 +1,15 @@
-use Rattle.std.proofs.Common.{◌≡◌, ◌<◌, option_map, length}
-use Rattle.std.specs.Duration.{as_nanos}
-use Rattle.wire_tcp.specs.Limits.{AreWithin}
+use Rattle.std.proofs.Common.{◌≡◌, ◌<◌, length}
+use Rattle.wire_tcp.specs.Deadlines.{ArePaced}
 use Rattle.wire_tcp.proofs.PatienceLemmas.{IdleReads}
 use Rattle.wire_tcp.proofs.patience.PatientStream.read_again.Given as goal
 
 abbrev pub invariant-cut : goal.invariant-cut
 invariant-cut g l = record {
   idle : IdleReads (g.P.Peer.flow l.fn.self.peer) (g.P.Peer.flow l.self.peer);
-  limited : AreWithin (option_map as_nanos l.fn.self.patience) (g.P.Peer.limits l.fn.self.peer) (g.P.Peer.limits l.self.peer);
+  paced : ArePaced l.fn.self.pace l.fn.self.running l.self.running (g.P.Peer.times l.fn.self.peer).waits (g.P.Peer.times l.self.peer).waits;
+  ages : (g.P.Peer.times l.self.peer).ages ≡ (g.P.Peer.times l.fn.self.peer).ages;
   room : 0 < length l.buffer;
-  patience : l.self.patience ≡ l.fn.self.patience;
+  pace : l.self.pace ≡ l.fn.self.pace;
   reads : l.self.reads ≡ l.fn.self.reads;
   writes : l.self.writes ≡ l.fn.self.writes;
 }

@@ -1,6 +1,6 @@
-use Rattle.std.proofs.Common.{rules, ◌∙◌, refl}
-use Rattle.wire_tcp.specs.Limits.{within_joins}
-use Rattle.wire_tcp.proofs.PatienceLemmas.{no_write, idle_then_write, idle_again_write}
+use Rattle.std.proofs.Common.{◌∙◌, refl}
+use Rattle.wire_tcp.specs.Deadlines.{paced_join}
+use Rattle.wire_tcp.proofs.PatienceLemmas.{idle_then_write, idle_again_write}
 use Rattle.wire_tcp.proofs.patience.PatientStream.write_again.Goals as goal
 
 pub returns-then-not-is_interrupted-clause-written : goal.returns-then-not-is_interrupted-clause-written
@@ -13,11 +13,18 @@ cut-preserved g c =
     let failed = (rw c.if-not-is_interrupted.false at c.is_interrupted.ensures).0 refl in
     record {
       idle = idle_again_write _ _ _ _ _ _ failed i.idle e.written;
-      limited = within_joins _ _ _ _ i.limited (rw i.patience at e.limited);
-      patience = e.patience ∙ i.patience;
+      paced = paced_join _ _ _ _ _ _ _ i.paced (rw i.pace at e.paced);
+      ages = e.ages ∙ i.ages;
+      pace = e.pace ∙ i.pace;
       reads = e.reads ∙ i.reads;
       writes = e.writes ∙ i.writes;
     }
 
 pub returns-clause-written : goal.returns-clause-written
 returns-clause-written g c = idle_then_write _ _ _ _ _ c.cut.invariant.idle c.write_once.ensures.written
+
+pub returns-then-not-is_interrupted-clause-paced : goal.returns-then-not-is_interrupted-clause-paced
+returns-then-not-is_interrupted-clause-paced g c = paced_join _ _ _ _ _ _ _ c.cut.invariant.paced (rw c.cut.invariant.pace at c.write_once-written.ensures.paced)
+
+pub returns-clause-paced : goal.returns-clause-paced
+returns-clause-paced g c = paced_join _ _ _ _ _ _ _ c.cut.invariant.paced (rw c.cut.invariant.pace at c.write_once.ensures.paced)
