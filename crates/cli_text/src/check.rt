@@ -9,7 +9,8 @@ ghost use Rattle.cli_core.specs.LineFaults.{Gives, GivesOf};
 ghost use Rattle.cli_text.specs.Check.{rules_in, name_if, asked_in, checking_of, checked_read, idle_head, idle_line, idle_text, findings_of, IsReport, exposure_line, isolation_line, exposures_of, IsIsolationReport, IsReportOn, Reports, Checked};
 
 use crate::canon::{read_name, zone_of_file};
-use crate::expect::{Expectations, expect_report, expectations_in};
+use crate::expect::expect_report;
+use crate::expectations::{Expectations, expectations_in};
 use crate::policy_changes::changes_report;
 use crate::reverse::{ForwardRecords, forward_records, reverse_report};
 use crate::rights::read_caller;

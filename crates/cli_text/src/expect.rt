@@ -1,73 +1,20 @@
 //! What is expected of a policy and is not so, as text.
 
-ghost use Rattle.std.specs.Prelude.{◌≡◌, List, IfOk};
-ghost use Rattle.policy_tools.specs.declared.expectation_lines.ExpectationLine.{ExpectationLine as RowOf};
-ghost use Rattle.cli_core.specs.LineFaults.{Gives};
+ghost use Rattle.std.specs.Prelude.{◌≡◌, IfOk};
 ghost use Rattle.cli_text.specs.ExpectAnswers.{AreExpected};
-ghost use Rattle.cli_text.specs.Expect.{word_fault, of_expectations, expectations_read, differs_line, exceeds_line, example_line, IsRowText, AreRowTexts, IsExpectReport};
+ghost use Rattle.cli_text.specs.Expect.{differs_line, exceeds_line, example_line, IsRowText, AreRowTexts, IsExpectReport};
 
 use crate::check::{Findings, Report, Subject, do_check, push_other, push_right};
 use crate::expect_fault::ExpectFault;
+use crate::expectations::Expectations;
 use crate::policy_changes::old_policy;
 use crate::rights::decision_text;
 use crate::zone_check::told;
-use cli_core::{Input, LineFault, Refusal, WordFault};
+use cli_core::Input;
 use dns_master::Sink;
 use grant_policy::{Decision, Policy, Rule};
-use policy_tools::{
-    Counterexample, Excess, ExpectationFault, ExpectationLine, ExpectationsFault,
-    expectation_fails, read_expectations,
-};
+use policy_tools::{Counterexample, Excess, ExpectationLine, expectation_fails};
 use std::alloc::{AllocError, Global};
-use std::marker::Model;
-
-/// What is expected, line by line. A contract sees the list of it.
-#[derive(Drop)]
-pub(crate) struct Expectations {
-    rows: Vec<ExpectationLine>,
-}
-
-impl Model for Expectations {
-    ghost Value = { List RowOf };
-
-    ghost view = { λ e. e.rows.items };
-}
-
-/// What is wrong with the words of a line; `None` where memory ran out.
-fn word_fault(fault: ExpectationFault) -> Option<WordFault>
-    ensures { result ≡ word_fault fault }
-{
-    match fault {
-        ExpectationFault::Form => Some(WordFault::Expectation),
-        ExpectationFault::NoCaller => Some(WordFault::Caller),
-        ExpectationFault::Name(fault) => Some(WordFault::Name(fault)),
-        ExpectationFault::TypeNotKept => Some(WordFault::Type),
-        ExpectationFault::NoAction => Some(WordFault::Action),
-        ExpectationFault::NoRule => Some(WordFault::Rule),
-        ExpectationFault::NoMemory => None,
-    }
-}
-
-/// The refusal of a text that has no expectations.
-fn of_expectations(fault: ExpectationsFault) -> LineFault
-    ensures { result ≡ of_expectations fault }
-{
-    let line = fault.line;
-    match word_fault(fault.fault) {
-        Some(fault) => LineFault::Refused(Refusal::Line { line, fault }),
-        None => LineFault::NoMemory,
-    }
-}
-
-/// The expectations of a text, whose octets are given back.
-pub(crate) fn expectations_in(alloc: Global, text: Vec<u8>) -> Result<Expectations, LineFault>
-    ensures { Gives (λ rows. rows) result (expectations_read text.items) }
-{
-    match read_expectations(alloc, &text) {
-        Ok(rows) => Ok(Expectations { rows }),
-        Err(fault) => Err(of_expectations(fault)),
-    }
-}
 
 /// The line that tells what is decided in place of what a line expects.
 fn differs_line(alloc: Global, line: usize, decision: Decision<'_>) -> Result<Vec<u8>, AllocError>
@@ -147,7 +94,7 @@ pub(crate) fn expect_report(
 ) -> Result<Report, AllocError>
     ensures { IfOk result (λ report. IsExpectReport policy.now expected.now report.findings report.text.items) }
 {
-    let text = rows_text(alloc, policy, &expected.rows)?;
+    let text = rows_text(alloc, policy, expected.rows())?;
     let findings = told(&text);
     Ok(Report { findings, text })
 }

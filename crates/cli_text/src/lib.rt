@@ -12,6 +12,7 @@ mod diff;
 mod diff_fault;
 mod expect;
 mod expect_fault;
+mod expectations;
 mod explain;
 mod filling;
 mod guard;
