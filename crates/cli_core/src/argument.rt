@@ -186,7 +186,7 @@ impl Argument {
             Argument::Only => &Row {
                 name: "only",
                 form: Form::Optional,
-                help: "The only rule: host-name, alias-target, missing-address, missing-glue, below-cut or ds-without-ns",
+                help: "The only rule, by its word: see docs/formats.md, or leave it out and see which are found",
             },
             Argument::Not => &Row {
                 name: "not",
