@@ -186,7 +186,7 @@ impl Argument {
             Argument::Only => &Row {
                 name: "only",
                 form: Form::Optional,
-                help: "The only rule, by its word: see docs/formats.md, or leave it out and see which are found",
+                help: "The only rule, by the word that is printed of it: host-name, below-cut, dangling-alias and others",
             },
             Argument::Not => &Row {
                 name: "not",

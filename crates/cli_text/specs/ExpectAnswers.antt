@@ -1,5 +1,6 @@
 -- What `check expect` does with its two inputs: a policy, and what is expected of it.
 use Rattle.std.specs.Prelude.{◌≡◌, ℕ, List, Option, Result, Ok, Err}
+use Rattle.std.specs.Borrow.{Bor}
 use Rattle.grant_policy.specs.declared.policy.Policy.{Policy}
 use Rattle.cli_text.specs.declared.check.Findings.{Findings}
 use Rattle.cli_text.specs.declared.check.Subject.TheVariants.{Expected}
