@@ -17,8 +17,9 @@ use Rattle.zone_core.specs.Delegations.{is_below, server_in, servers_in, IsCutAt
 use Rattle.zone_core.proofs.MetLemmas.{Among, among_of, of_among, any_is, is_any, among_append}
 use Rattle.zone_core.proofs.BelowLemmas.{Name, below-Decides, within_within}
 use Rattle.zone_tools.specs.declared.zone_rule.ZoneRule.{ZoneRule}
-use Rattle.zone_tools.specs.declared.zone_rule.ZoneRule.TheVariants.{HostName, AliasTarget, MissingAddress, MissingGlue, BelowCut, DsWithoutNs}
+use Rattle.zone_tools.specs.declared.zone_rule.ZoneRule.TheVariants.{HostName, AliasTarget, MissingAddress, MissingGlue, BelowCut, DsWithoutNs, WildcardNs, DigestLength, WeakDigest, AddressName, UnreadOctet}
 use Rattle.zone_tools.specs.HostNames.{has_host_names}
+use Rattle.zone_tools.specs.RecordFaults.{is_wildcard_server, is_fit_digest, is_sha1, points_to_address, is_unread_record}
 use Rattle.zone_tools.specs.ZoneRules.{server_of, HasType, IsAlias, IsAddressed, IsDelegated, IsBelowCut, IsOccluded, IsGlue, IsAtFault}
 use Rattle.zone_tools.specs.ZoneTests.{is_ns, is_cname, is_ds, is_address, records_at, some_type, answering, is_cut, is_delegated, is_below_cut, is_occluded, is_server, broken_by, broken_by_server, is_rule, is_at_fault}
 use Rattle.zone_tools.proofs.AnswerLemmas.{some_type-Decides, answers-Decides, own_answers}
@@ -332,16 +333,16 @@ module _ (origin : Name) (rs : List Record) (r : Record) where
       )
   by_server (Some s) e = (alias_fault s e, address_fault s e, glue_fault s e)
 
-  host_fault : Decides (not (has_host_names r)) (has_host_names r ≡ false)
-  host_fault = by_test (has_host_names r)
-    where
-      by_test : (b : Bool) → Decides (not b) (b ≡ false)
-      by_test true = (λ e. absurd cc, λ e. absurd cc)
-      by_test false = (λ e. refl, λ e. refl)
+  failed-Decides : (b : Bool) → Decides (not b) (b ≡ false)
+  failed-Decides true = (λ e. absurd cc, λ e. absurd cc)
+  failed-Decides false = (λ e. refl, λ e. refl)
+
+  passed-Decides : (b : Bool) → Decides b (b ≡ true)
+  passed-Decides b = (λ e. e, λ e. e)
 
   -- a test tells whether a record is at fault by its rule
   pub fault-Decides : (rule : ZoneRule) → Decides (is_at_fault rule origin rs r) (IsAtFault rule origin rs r)
-  fault-Decides HostName = host_fault
+  fault-Decides HostName = failed-Decides (has_host_names r)
   fault-Decides AliasTarget = (by_server (server_of r.rdata) refl).0
   fault-Decides MissingAddress = (by_server (server_of r.rdata) refl).1
   fault-Decides MissingGlue = (by_server (server_of r.rdata) refl).2
@@ -351,3 +352,8 @@ module _ (origin : Name) (rs : List Record) (r : Record) where
   fault-Decides DsWithoutNs =
       Decides-and (is_ds (type_of r.rdata)) (not (some_type is_ns (records_at rs r.owner))) (ds_type (type_of r.rdata))
       (Decides-not (some_type is_ns (records_at rs r.owner)) (has_type-Decides rs is_ns types.Ns ns_type r.owner))
+  fault-Decides WildcardNs = passed-Decides (is_wildcard_server r.owner r.rdata)
+  fault-Decides DigestLength = failed-Decides (is_fit_digest r.rdata)
+  fault-Decides WeakDigest = passed-Decides (is_sha1 r.rdata)
+  fault-Decides AddressName = passed-Decides (points_to_address r.rdata)
+  fault-Decides UnreadOctet = passed-Decides (is_unread_record r)

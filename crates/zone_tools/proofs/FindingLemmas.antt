@@ -1,10 +1,11 @@
 -- The findings in a zone are those of its records that are at fault, in order.
-use Rattle.std.proofs.Common.{◌≡◌, ◌↔◌, ◌⊎◌, ℕ, zero, suc, ◌+◌, ◌<◌, List, [], ◌∷◌, ◌++◌, length, Bool, true, false, cond, Some, refl, sym, ap, subst, ◌∙◌, inl, inr, arith, append_assoc, append-nil, add-zero, ltb}
+use Rattle.std.proofs.Common.{◌≡◌, ◌↔◌, ◌⊎◌, ℕ, zero, suc, ◌+◌, ◌<◌, List, [], ◌∷◌, ◌++◌, length, Bool, true, false, cond, Some, refl, sym, ap, subst, ◌∙◌, inl, inr, arith, append_assoc, append-nil, add-zero, ltb, ◌&&◌}
 use borrow.Author.Tests.{ltb-true}
 use Rattle.std.specs.Prelude.{slice_get}
 use Rattle.std.specs.declared.cmp.Ordering.TheVariants.{Less, Equal}
 use Rattle.std.specs.Ordering.{nat_cmp, ordering_then}
-use Rattle.std.specs.List.{AllByRecursion, Contains}
+use Rattle.std.specs.List.{AllByRecursion, Contains, list_all}
+use Rattle.std.proofs.lemmas.Bool.{and_parts}
 use Rattle.std.specs.List.Sorted.{IsStrictlySortedBy}
 use Rattle.dns_names.proofs.KeyLaws.{less, tied}
 use Rattle.std.proofs.lemmas.Option.{slice_get-get_or}
@@ -18,7 +19,7 @@ use Rattle.zone_core.specs.Delegations.{HasAddress}
 use Rattle.zone_core.proofs.MetLemmas.{Among, among_of, of_among, among_append}
 use Rattle.zone_core.proofs.BelowLemmas.{Name, no_test}
 use Rattle.zone_tools.specs.declared.zone_rule.ZoneRule.{ZoneRule}
-use Rattle.zone_tools.specs.declared.zone_rule.ZoneRule.TheVariants.{HostName, AliasTarget, MissingAddress, MissingGlue, BelowCut, DsWithoutNs}
+use Rattle.zone_tools.specs.declared.zone_rule.ZoneRule.TheVariants.{HostName, AliasTarget, MissingAddress, MissingGlue, BelowCut, DsWithoutNs, WildcardNs, DigestLength, WeakDigest, AddressName, UnreadOctet}
 use Rattle.zone_tools.specs.declared.zone_finding.Finding.{Finding}
 use Rattle.zone_tools.specs.ZoneRules.{all_rules, rule_place, IsOccluded, IsAtFault}
 use Rattle.zone_tools.specs.ZoneTests.{is_address, records_at, some_type, is_at_fault}
@@ -55,27 +56,36 @@ every_rule MissingAddress = inr (inr (inl refl))
 every_rule MissingGlue = inr (inr (inr (inl refl)))
 every_rule BelowCut = inr (inr (inr (inr (inl refl))))
 every_rule DsWithoutNs = inr (inr (inr (inr (inr (inl refl)))))
+every_rule WildcardNs = inr (inr (inr (inr (inr (inr (inl refl))))))
+every_rule DigestLength = inr (inr (inr (inr (inr (inr (inr (inl refl)))))))
+every_rule WeakDigest = inr (inr (inr (inr (inr (inr (inr (inr (inl refl))))))))
+every_rule AddressName = inr (inr (inr (inr (inr (inr (inr (inr (inr (inl refl)))))))))
+every_rule UnreadOctet = inr (inr (inr (inr (inr (inr (inr (inr (inr (inr (inl refl))))))))))
 
 -- rules in the order of the table
 abbrev Rising : List ZoneRule → Type 0
 Rising [] = Unit {0}
 Rising (rule ∷ rules) = AllByRecursion (λ s. rule_place rule < rule_place s) rules × Rising rules
 
+-- the same as a test
+abbrev are_rising : List ZoneRule → Bool
+are_rising [] = true
+are_rising (rule ∷ rules) = list_all (λ s. ltb (rule_place rule) (rule_place s)) rules && are_rising rules
+
+all_higher : (rule : ZoneRule) (rules : List ZoneRule) → list_all (λ s. ltb (rule_place rule) (rule_place s)) rules ≡ true → AllByRecursion (λ s. rule_place rule < rule_place s) rules
+all_higher rule [] e = tt
+all_higher rule (s ∷ rules) e =
+    let parts = and_parts (ltb (rule_place rule) (rule_place s)) (list_all (λ s. ltb (rule_place rule) (rule_place s)) rules) e in
+    (ltb-true (rule_place rule) (rule_place s) parts.0, all_higher rule rules parts.1)
+
+rising : (rules : List ZoneRule) → are_rising rules ≡ true → Rising rules
+rising [] e = tt
+rising (rule ∷ rules) e =
+    let parts = and_parts (list_all (λ s. ltb (rule_place rule) (rule_place s)) rules) (are_rising rules) e in
+    (all_higher rule rules parts.0, rising rules parts.1)
+
 all_rising : Rising all_rules
-all_rising =
-    let lt : (m n : ℕ) → ltb m n ≡ true → m < n = λ m n e. ltb-true m n e in (
-      (lt 0 1 refl, (lt 0 2 refl, (lt 0 3 refl, (lt 0 4 refl, (lt 0 5 refl, tt))))),
-      (
-        (lt 1 2 refl, (lt 1 3 refl, (lt 1 4 refl, (lt 1 5 refl, tt)))),
-        (
-          (lt 2 3 refl, (lt 2 4 refl, (lt 2 5 refl, tt))),
-          (
-            (lt 3 4 refl, (lt 3 5 refl, tt)),
-            ((lt 4 5 refl, tt), (tt, tt)),
-          ),
-        ),
-      ),
-    )
+all_rising = rising all_rules refl
 
 among_all : (P : ZoneRule → Type 0) (rules : List ZoneRule) (rule : ZoneRule) → AllByRecursion P rules → Among rule rules → P rule
 among_all P [] rule all a = absurd a

@@ -33,8 +33,9 @@ use Rattle.zone_core.proofs.MetLemmas.{Among, among_of, of_among, among_append}
 use Rattle.zone_core.proofs.SetLemmas.{name_is}
 use Rattle.zone_tools.specs.declared.reverse_blocks.OctetRange.{OctetRange}
 use Rattle.zone_tools.specs.declared.reverse_blocks.Block.{Block}
+use Rattle.zone_tools.specs.HostNames.{is_wildcard}
 use Rattle.zone_tools.specs.ReverseNames.{ipv4_name, ipv6_name, last_octet, block_of, has_octet, has_address, block_place, place_of, IsPlacedInBlock, IsPlaceOf}
-use Rattle.zone_tools.specs.Pointers.{is_wildcard, CallsFor, target_len, choice, IsPointerFor, AreByOwner, ArePointers, AreComplete, AreSound, HaveOwnersOnce, PointersAreOne, pointer_at, pointer_of, called, pointer_order, AreFirsts}
+use Rattle.zone_tools.specs.Pointers.{CallsFor, target_len, choice, IsPointerFor, AreByOwner, ArePointers, AreComplete, AreSound, HaveOwnersOnce, PointersAreOne, pointer_at, pointer_of, called, pointer_order, AreFirsts}
 use Rattle.zone_tools.proofs.ReverseBlockLemmas.{block_origin}
 
 -- ---- places

@@ -20,7 +20,7 @@ use Rattle.zone_core.proofs.BelowLemmas.{Name, no_test}
 use Rattle.zone_core.proofs.MetLemmas.{among_of, of_among, any_is, is_any}
 use Rattle.zone_core.proofs.SetLemmas.{name_is, name_self}
 use Rattle.zone_tools.specs.ReverseNames.{place_of}
-use Rattle.zone_tools.specs.Pointers.{is_wildcard}
+use Rattle.zone_tools.specs.HostNames.{is_wildcard}
 use Rattle.zone_tools.specs.SharedAddresses.{HasPlace, IsShared, address_order, AreShared, has_place, AreDistinct, is_namesake, is_shared}
 use Rattle.zone_tools.proofs.AnswerLemmas.{among_filter}
 use Rattle.zone_tools.proofs.PointerLemmas.{place_is, is_place, data_total, both_tied, all_at}

@@ -23,6 +23,11 @@ is_host_name name = list_all is_host_label name
 abbrev pub is_asterisk : List ℕ → Bool
 is_asterisk label = (length label == 1) && (slice_index label 0 == 42)
 
+-- a wildcard, which stands for other names (RFC 4592 section 2.1.1)
+abbrev pub is_wildcard : List (List ℕ) → Bool
+is_wildcard [] = false
+is_wildcard (label ∷ labels) = is_asterisk label
+
 -- the name of a host, or a wildcard before one
 abbrev pub is_host_owner : List (List ℕ) → Bool
 is_host_owner [] = true

@@ -4,6 +4,7 @@ pub mod HostNames
 pub mod ReverseNames
 pub mod Pointers
 pub mod SharedAddresses
+pub mod RecordFaults
 pub mod ZoneRules
 pub mod ZoneTests
 pub mod ZoneFindings

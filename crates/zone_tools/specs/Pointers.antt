@@ -1,5 +1,5 @@
 -- The pointers that the addresses of forward zones call for in a reverse zone (RFC 1035 section 3.5).
-use Rattle.std.specs.Prelude.{◌≡◌, ◌≢◌, ◌↔◌, ℕ, List, [], ◌∷◌, length, Bool, false, if◌then◌else◌, Option, Some, None}
+use Rattle.std.specs.Prelude.{◌≡◌, ◌≢◌, ◌↔◌, ℕ, List, [], ◌∷◌, length, false, if◌then◌else◌, Option, Some, None}
 use Rattle.std.specs.List.{AllByRecursion, Contains, flat_map}
 use Rattle.std.specs.List.Sorted.{IsStrictlySortedBy}
 use Rattle.std.specs.Ordering.{nat_cmp, on, then_cmp}
@@ -11,13 +11,8 @@ use Rattle.dns_data.specs.declared.rdata.Data.{Data}
 use Rattle.dns_data.specs.declared.rdata.Data.TheVariants.{Ptr}
 use Rattle.dns_data.specs.Rdata.{IsRecord}
 use Rattle.dns_data.specs.RecordOrder.{data_order}
-use Rattle.zone_tools.specs.HostNames.{is_asterisk}
+use Rattle.zone_tools.specs.HostNames.{is_wildcard}
 use Rattle.zone_tools.specs.ReverseNames.{IsPlaceOf, place_of}
-
--- whether a name is a wildcard, which stands for others (RFC 4592 section 2.1.1)
-abbrev pub is_wildcard : List (List ℕ) → Bool
-is_wildcard [] = false
-is_wildcard (label ∷ labels) = is_asterisk label
 
 -- A record of a forward zone calls for a pointer in a reverse zone of this origin: the zone has the record's address at the pointer's
 -- owner, the record's owner is no wildcard, and the pointer points to it, with the record's TTL.

@@ -8,7 +8,7 @@ use Rattle.dns_names.specs.Order.{canonical_cmp, same_name}
 use Rattle.dns_data.specs.declared.record.Record.{Record}
 use Rattle.dns_data.specs.RecordOrder.{data_order}
 use Rattle.zone_tools.specs.ReverseNames.{IsPlaceOf, place_of}
-use Rattle.zone_tools.specs.Pointers.{is_wildcard}
+use Rattle.zone_tools.specs.HostNames.{is_wildcard}
 
 -- one of the records, with an address that a reverse zone of this origin has, at a name that is no wildcard
 pub record HasPlace (origin : List (List ℕ)) (rs : List Record) (r : Record) : Type 0 where

@@ -1,5 +1,5 @@
 -- The rules that are checked of a zone: what each is called, and which records are at fault by it.
-use Rattle.std.specs.Prelude.{◌≡◌, ◌⊎◌, ℕ, List, [], ◌∷◌, ◌++◌, false, codes, Option, Some, None, find, bytes_eq}
+use Rattle.std.specs.Prelude.{◌≡◌, ◌⊎◌, ℕ, List, [], ◌∷◌, ◌++◌, true, false, codes, Option, Some, None, find, bytes_eq}
 use Rattle.std.specs.List.{Contains}
 use Rattle.dns_names.specs.Labels.{IsWithin, IsBelow}
 use Rattle.dns_data.specs.declared.record.Record.{Record}
@@ -10,14 +10,16 @@ use Rattle.dns_data.specs.declared.rdata.Data.TheVariants as variants
 use Rattle.dns_data.specs.Rdata.{type_of}
 use Rattle.zone_core.specs.Delegations.{IsCutAt, HasAddress}
 use Rattle.zone_tools.specs.declared.zone_rule.ZoneRule.{ZoneRule}
-use Rattle.zone_tools.specs.declared.zone_rule.ZoneRule.TheVariants.{HostName, AliasTarget, MissingAddress, MissingGlue, BelowCut, DsWithoutNs}
+use Rattle.zone_tools.specs.declared.zone_rule.ZoneRule.TheVariants.{HostName, AliasTarget, MissingAddress, MissingGlue, BelowCut, DsWithoutNs, WildcardNs, DigestLength, WeakDigest, AddressName, UnreadOctet}
 use Rattle.zone_tools.specs.HostNames.{has_host_names}
+use Rattle.zone_tools.specs.RecordFaults.{is_wildcard_server, is_fit_digest, is_sha1, points_to_address, is_unread_record}
 
 -- ---- the table
 
 -- the rules that there are
 abbrev pub all_rules : List ZoneRule
-all_rules = HostName ∷ AliasTarget ∷ MissingAddress ∷ MissingGlue ∷ BelowCut ∷ DsWithoutNs ∷ []
+all_rules =
+    HostName ∷ AliasTarget ∷ MissingAddress ∷ MissingGlue ∷ BelowCut ∷ DsWithoutNs ∷ WildcardNs ∷ DigestLength ∷ WeakDigest ∷ AddressName ∷ UnreadOctet ∷ []
 
 -- the word for a rule, what is wrong by it, and where the standards have it
 pub record RuleRow : Type 0 where
@@ -48,6 +50,21 @@ row_of BelowCut =
 row_of DsWithoutNs =
     row (codes "ds-without-ns") (codes "a DS is at a name without NS")
     (codes "RFC 4034 section 5")
+row_of WildcardNs =
+    row (codes "wildcard-ns") (codes "an NS is at a wildcard")
+    (codes "RFC 4592 section 4.2")
+row_of DigestLength =
+    row (codes "digest-length") (codes "the digest of a DS has not the length of its type")
+    (codes "RFC 4034 section 5.1, RFC 4509 section 2.1, RFC 6605 section 2")
+row_of WeakDigest =
+    row (codes "weak-digest") (codes "the digest of a DS is of SHA-1")
+    (codes "RFC 8624 section 3.3")
+row_of AddressName =
+    row (codes "address-name") (codes "the name to which the record points is an IPv4 address")
+    (codes "RFC 1035 section 3.3, RFC 1123 section 2.1")
+row_of UnreadOctet =
+    row (codes "unread-octet") (codes "a name has one of ! # % & ' + , : < = > ? [ ] ^ ` { | } ~, which Knot does not read")
+    (codes "RFC 1035 section 5.1")
 
 abbrev pub rule_text : ZoneRule → List ℕ
 rule_text rule = (row_of rule).text
@@ -70,6 +87,11 @@ rule_place MissingAddress = 2
 rule_place MissingGlue = 3
 rule_place BelowCut = 4
 rule_place DsWithoutNs = 5
+rule_place WildcardNs = 6
+rule_place DigestLength = 7
+rule_place WeakDigest = 8
+rule_place AddressName = 9
+rule_place UnreadOctet = 10
 
 -- ---- servers
 
@@ -161,7 +183,12 @@ pub record NamesDelegatedServer (origin : List (List ℕ)) (rs : List Record) (r
 -- the server that it names has no address, where the zone would answer with one (RFC 1034 section 3.6, RFC 2782);
 -- the server of a delegation has no address, where glue is needed (RFC 1034 section 4.2.1, RFC 9471 section 2);
 -- a delegation occludes it, and it is no glue (RFC 1034 section 4.2.1);
--- it is a DS at a name without NS (RFC 4034 section 5).
+-- it is a DS at a name without NS (RFC 4034 section 5);
+-- it is an NS at a wildcard (RFC 4592 section 4.2);
+-- it is a DS whose digest has not the length of its type (RFC 4034 section 5.1, RFC 4509 section 2.1, RFC 6605 section 2);
+-- it is a DS with a digest of SHA-1 (RFC 8624 section 3.3);
+-- the name to which it points is an IPv4 address (RFC 1123 section 2.1);
+-- a name of it has an octet that Knot does not read as it is printed.
 abbrev pub IsAtFault : ZoneRule → List (List ℕ) → List Record → Record → Type 0
 IsAtFault HostName origin rs r = has_host_names r ≡ false
 IsAtFault AliasTarget origin rs r = (server : List (List ℕ)) × NamesOwnServer origin rs r server × IsAlias rs server
@@ -170,3 +197,8 @@ IsAtFault MissingAddress origin rs r =
 IsAtFault MissingGlue origin rs r = (server : List (List ℕ)) × NamesDelegatedServer origin rs r server × ¬ HasAddress rs server
 IsAtFault BelowCut origin rs r = IsOccluded origin rs r × ¬ IsGlue rs r
 IsAtFault DsWithoutNs origin rs r = (type_of r.rdata ≡ types.Ds) × ¬ HasType rs r.owner types.Ns
+IsAtFault WildcardNs origin rs r = is_wildcard_server r.owner r.rdata ≡ true
+IsAtFault DigestLength origin rs r = is_fit_digest r.rdata ≡ false
+IsAtFault WeakDigest origin rs r = is_sha1 r.rdata ≡ true
+IsAtFault AddressName origin rs r = points_to_address r.rdata ≡ true
+IsAtFault UnreadOctet origin rs r = is_unread_record r ≡ true

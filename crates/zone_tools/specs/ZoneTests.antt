@@ -13,9 +13,10 @@ use Rattle.zone_core.specs.Sets as sets
 use Rattle.zone_core.specs.Outermost.{AreApart}
 use Rattle.zone_core.specs.Delegations.{is_below, servers_in}
 use Rattle.zone_tools.specs.declared.zone_rule.ZoneRule.{ZoneRule}
-use Rattle.zone_tools.specs.declared.zone_rule.ZoneRule.TheVariants.{HostName, AliasTarget, MissingAddress, MissingGlue, BelowCut, DsWithoutNs}
+use Rattle.zone_tools.specs.declared.zone_rule.ZoneRule.TheVariants.{HostName, AliasTarget, MissingAddress, MissingGlue, BelowCut, DsWithoutNs, WildcardNs, DigestLength, WeakDigest, AddressName, UnreadOctet}
 use Rattle.zone_tools.specs.declared.zone_survey.Survey.{Survey}
 use Rattle.zone_tools.specs.HostNames.{has_host_names}
+use Rattle.zone_tools.specs.RecordFaults.{is_wildcard_server, is_fit_digest, is_sha1, points_to_address, is_unread_record}
 use Rattle.zone_tools.specs.ZoneRules.{rule_place, server_of, asterisk}
 
 -- ---- types
@@ -142,4 +143,9 @@ abbrev pub is_at_fault : ZoneRule → List (List ℕ) → List Record → Record
 is_at_fault HostName origin rs r = not (has_host_names r)
 is_at_fault BelowCut origin rs r = is_occluded origin rs r && not (is_address (type_of r.rdata) && is_server rs r.owner)
 is_at_fault DsWithoutNs origin rs r = is_ds (type_of r.rdata) && not (some_type is_ns (records_at rs r.owner))
+is_at_fault WildcardNs origin rs r = is_wildcard_server r.owner r.rdata
+is_at_fault DigestLength origin rs r = not (is_fit_digest r.rdata)
+is_at_fault WeakDigest origin rs r = is_sha1 r.rdata
+is_at_fault AddressName origin rs r = points_to_address r.rdata
+is_at_fault UnreadOctet origin rs r = is_unread_record r
 is_at_fault rule origin rs r = is_rule rule (server_rule origin rs r)

@@ -3,7 +3,7 @@
 ghost use Rattle.std.specs.Prelude.{◌≡◌};
 ghost use Rattle.std.specs.List.{list_all, list_any};
 ghost use Rattle.dns_names.specs.Labels.{is_within};
-ghost use Rattle.zone_tools.specs.HostNames.{is_host_octet, is_host_label, is_host_name, is_asterisk, is_host_owner, is_mailbox, is_global_catalog, is_address_owner, is_spf_label, is_fit_owner, ipv4_names, ipv6_names, is_reverse, is_browsing_label, is_browsing, is_fit_pointer, has_fit_names, has_host_names};
+ghost use Rattle.zone_tools.specs.HostNames.{is_host_octet, is_host_label, is_host_name, is_asterisk, is_wildcard, is_host_owner, is_mailbox, is_global_catalog, is_address_owner, is_spf_label, is_fit_owner, ipv4_names, ipv6_names, is_reverse, is_browsing_label, is_browsing, is_fit_pointer, has_fit_names, has_host_names};
 
 use dns_data::{Data, Record};
 use dns_names::{Labels, Name};
@@ -47,10 +47,20 @@ fn is_host_name(name: &Name) -> bool
 }
 
 /// Whether a label makes a wildcard (RFC 4592 section 2.1.1).
-pub(crate) fn is_asterisk(label: &[u8]) -> bool
+fn is_asterisk(label: &[u8]) -> bool
     ensures { result ≡ is_asterisk label.now }
 {
     label.len() == 1 && label[0] == b'*'
+}
+
+/// Whether a name is a wildcard, which stands for other names (RFC 4592 section 2.1.1).
+pub(crate) fn is_wildcard(name: &Name) -> bool
+    ensures { result ≡ is_wildcard name.now }
+{
+    match name.labels().next() {
+        Some(label) => is_asterisk(label),
+        None => false,
+    }
 }
 
 /// Whether a name is that of a host, or a wildcard before one.

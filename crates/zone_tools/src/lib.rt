@@ -9,6 +9,7 @@ mod difference;
 mod host_names;
 mod laws;
 mod pointers;
+mod record_faults;
 mod reverse_blocks;
 mod reverse_names;
 mod same;

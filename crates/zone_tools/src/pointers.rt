@@ -7,24 +7,14 @@ ghost use Rattle.dns_names.specs.Order.{same_name};
 ghost use Rattle.dns_data.specs.RecordOrder.{record_order};
 ghost use Rattle.std.specs.List.Sorted.{IsStrictlySortedBy};
 ghost use Rattle.zone_tools.specs.ReverseNames.{block_of};
-ghost use Rattle.zone_tools.specs.Pointers.{AreComplete, AreSound, HaveOwnersOnce, ArePointers, AreFirsts, is_wildcard, target_len, choice, pointer_order, pointer_of, called};
+ghost use Rattle.zone_tools.specs.Pointers.{AreComplete, AreSound, HaveOwnersOnce, ArePointers, AreFirsts, target_len, choice, pointer_order, pointer_of, called};
 
-use crate::host_names::is_asterisk;
+use crate::host_names::is_wildcard;
 use crate::reverse_blocks::{Block, block_of, place_of};
 use dns_data::{Data, Record, data_order};
 use dns_names::Name;
 use std::alloc::{AllocError, Global};
 use std::cmp::Ordering;
-
-/// Whether a name is a wildcard, which stands for others (RFC 4592 section 2.1.1).
-pub(crate) fn is_wildcard(name: &Name) -> bool
-    ensures { result ≡ is_wildcard name.now }
-{
-    match name.labels().next() {
-        Some(label) => is_asterisk(label),
-        None => false,
-    }
-}
 
 /// How many labels the target of a pointer has.
 fn target_len(rdata: &Data) -> usize

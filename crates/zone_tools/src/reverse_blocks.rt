@@ -44,7 +44,7 @@ fn octet_of_digits(digits: &[u8]) -> Option<u16>
 }
 
 /// The number that a text writes in decimal digits, up to 255.
-fn octet_of(text: &[u8]) -> Option<u16>
+pub(crate) fn octet_of(text: &[u8]) -> Option<u16>
     ensures { result ≡ octet_of text.now }
 {
     if is_number(text) {

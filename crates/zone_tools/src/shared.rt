@@ -7,7 +7,7 @@ ghost use Rattle.dns_data.specs.Rdata.{IsRecord};
 ghost use Rattle.zone_tools.specs.ReverseNames.{block_of};
 ghost use Rattle.zone_tools.specs.SharedAddresses.{AreShared, address_order, has_place, AreDistinct, is_namesake, is_shared};
 
-use crate::pointers::is_wildcard;
+use crate::host_names::is_wildcard;
 use crate::reverse_blocks::{Block, block_of, place_of};
 use dns_data::{Record, data_order};
 use dns_names::Name;

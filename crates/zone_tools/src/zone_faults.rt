@@ -7,6 +7,9 @@ ghost use Rattle.zone_tools.specs.ZoneTests.{IsSurvey, glue_rule, answer_rule, o
 ghost use Rattle.zone_tools.specs.ZoneFindings.{finding_by, findings_by, findings_at};
 
 use crate::host_names::has_host_names;
+use crate::record_faults::{
+    is_fit_digest, is_sha1, is_unread_record, is_wildcard_server, points_to_address,
+};
 use crate::zone_finding::Finding;
 use crate::zone_names::{answering, records_at};
 use crate::zone_rule::ZoneRule;
@@ -138,6 +141,11 @@ fn is_at_fault(survey: &Survey<'_>, rr: &Record, broken: Option<ZoneRule>, rule:
         ZoneRule::HostName => !has_host_names(rr),
         ZoneRule::BelowCut => is_stray(survey, rr),
         ZoneRule::DsWithoutNs => lacks_ns(survey, rr),
+        ZoneRule::WildcardNs => is_wildcard_server(&rr.owner, &rr.rdata),
+        ZoneRule::DigestLength => !is_fit_digest(&rr.rdata),
+        ZoneRule::WeakDigest => is_sha1(&rr.rdata),
+        ZoneRule::AddressName => points_to_address(&rr.rdata),
+        ZoneRule::UnreadOctet => is_unread_record(rr),
         ZoneRule::AliasTarget | ZoneRule::MissingAddress | ZoneRule::MissingGlue => {
             is_rule(rule, broken)
         }

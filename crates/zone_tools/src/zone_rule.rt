@@ -17,19 +17,34 @@ pub enum ZoneRule {
     BelowCut,
     /// A DS is at a name without NS.
     DsWithoutNs,
+    /// An NS is at a wildcard.
+    WildcardNs,
+    /// The digest of a DS has not the length of its type.
+    DigestLength,
+    /// The digest of a DS is of SHA-1.
+    WeakDigest,
+    /// A record points to a name that is an IPv4 address.
+    AddressName,
+    /// A name has an octet that Knot does not read as it is printed.
+    UnreadOctet,
 }
 
 impl ZoneRule {
     ghost use Rattle.zone_tools.specs.ZoneRules.{rule_text, rule_reason, rule_source, rule_place, rule_of};
 
     /// The rules that there are.
-    pub const ALL: [ZoneRule; 6] = [
+    pub const ALL: [ZoneRule; 11] = [
         ZoneRule::HostName,
         ZoneRule::AliasTarget,
         ZoneRule::MissingAddress,
         ZoneRule::MissingGlue,
         ZoneRule::BelowCut,
         ZoneRule::DsWithoutNs,
+        ZoneRule::WildcardNs,
+        ZoneRule::DigestLength,
+        ZoneRule::WeakDigest,
+        ZoneRule::AddressName,
+        ZoneRule::UnreadOctet,
     ];
 
     /// The word for it, as `host-name`.
@@ -43,6 +58,11 @@ impl ZoneRule {
             ZoneRule::MissingGlue => "missing-glue",
             ZoneRule::BelowCut => "below-cut",
             ZoneRule::DsWithoutNs => "ds-without-ns",
+            ZoneRule::WildcardNs => "wildcard-ns",
+            ZoneRule::DigestLength => "digest-length",
+            ZoneRule::WeakDigest => "weak-digest",
+            ZoneRule::AddressName => "address-name",
+            ZoneRule::UnreadOctet => "unread-octet",
         }
     }
 
@@ -70,6 +90,12 @@ impl ZoneRule {
                 "the server of the delegation is at or below a cut and has no glue",
             ZoneRule::BelowCut => "a delegation occludes the record, which is no glue",
             ZoneRule::DsWithoutNs => "a DS is at a name without NS",
+            ZoneRule::WildcardNs => "an NS is at a wildcard",
+            ZoneRule::DigestLength => "the digest of a DS has not the length of its type",
+            ZoneRule::WeakDigest => "the digest of a DS is of SHA-1",
+            ZoneRule::AddressName => "the name to which the record points is an IPv4 address",
+            ZoneRule::UnreadOctet =>
+                "a name has one of ! # % & ' + , : < = > ? [ ] ^ ` { | } ~, which Knot does not read",
         }
     }
 
@@ -84,6 +110,12 @@ impl ZoneRule {
             ZoneRule::MissingGlue => "RFC 1034 section 4.2.1, RFC 9471 section 2",
             ZoneRule::BelowCut => "RFC 1034 section 4.2.1, RFC 5936 section 3.5",
             ZoneRule::DsWithoutNs => "RFC 4034 section 5",
+            ZoneRule::WildcardNs => "RFC 4592 section 4.2",
+            ZoneRule::DigestLength =>
+                "RFC 4034 section 5.1, RFC 4509 section 2.1, RFC 6605 section 2",
+            ZoneRule::WeakDigest => "RFC 8624 section 3.3",
+            ZoneRule::AddressName => "RFC 1035 section 3.3, RFC 1123 section 2.1",
+            ZoneRule::UnreadOctet => "RFC 1035 section 5.1",
         }
     }
 
