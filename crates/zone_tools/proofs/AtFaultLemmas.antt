@@ -1,5 +1,5 @@
 -- The tests of records tell which are at fault.
-use Rattle.std.proofs.Common.{◌≡◌, ◌↔◌, ◌⊎◌, List, [], ◌∷◌, Bool, true, false, cond, not, ◌&&◌, ◌||◌, Option, Some, None, refl, sym, ap, subst, ◌∙◌, inl, inr}
+use Rattle.std.proofs.Common.{◌≡◌, ◌↔◌, ◌⊎◌, List, [], ◌∷◌, length, eqb, ne_eqb, arith, Bool, true, false, cond, not, ◌&&◌, ◌||◌, Option, Some, None, refl, sym, ap, subst, ◌∙◌, inl, inr}
 use Rattle.std.specs.Bool.{Decides}
 use Rattle.std.specs.List.{Contains, list_any}
 use Rattle.std.proofs.lemmas.Bool.{and_parts}
@@ -17,11 +17,11 @@ use Rattle.zone_core.specs.Delegations.{is_below, server_in, servers_in, IsCutAt
 use Rattle.zone_core.proofs.MetLemmas.{Among, among_of, of_among, any_is, is_any, among_append}
 use Rattle.zone_core.proofs.BelowLemmas.{Name, below-Decides, within_within}
 use Rattle.zone_tools.specs.declared.zone_rule.ZoneRule.{ZoneRule}
-use Rattle.zone_tools.specs.declared.zone_rule.ZoneRule.TheVariants.{HostName, AliasTarget, MissingAddress, MissingGlue, BelowCut, DsWithoutNs, WildcardNs, DigestLength, WeakDigest, AddressName, UnreadOctet}
+use Rattle.zone_tools.specs.declared.zone_rule.ZoneRule.TheVariants.{HostName, AliasTarget, MissingAddress, MissingGlue, BelowCut, DsWithoutNs, WildcardNs, DigestLength, WeakDigest, AddressName, UnreadOctet, DanglingAlias}
 use Rattle.zone_tools.specs.HostNames.{has_host_names}
 use Rattle.zone_tools.specs.RecordFaults.{is_wildcard_server, is_fit_digest, is_sha1, points_to_address, is_unread_record}
-use Rattle.zone_tools.specs.ZoneRules.{server_of, HasType, IsAlias, IsAddressed, IsDelegated, IsBelowCut, IsOccluded, IsGlue, IsAtFault}
-use Rattle.zone_tools.specs.ZoneTests.{is_ns, is_cname, is_ds, is_address, records_at, some_type, answering, is_cut, is_delegated, is_below_cut, is_occluded, is_server, broken_by, broken_by_server, is_rule, is_at_fault}
+use Rattle.zone_tools.specs.ZoneRules.{server_of, HasType, IsAlias, IsAddressed, IsDelegated, IsBelowCut, IsOccluded, IsGlue, AnswersWith, NamesNothing, IsAtFault}
+use Rattle.zone_tools.specs.ZoneTests.{is_ns, is_cname, is_ds, is_address, records_at, some_type, answering, is_cut, is_delegated, is_below_cut, is_occluded, is_server, broken_by, broken_by_server, is_missing, dangles_by, is_rule, is_at_fault}
 use Rattle.zone_tools.proofs.AnswerLemmas.{some_type-Decides, answers-Decides, own_answers}
 
 -- ---- types
@@ -340,6 +340,34 @@ module _ (origin : Name) (rs : List Record) (r : Record) where
   passed-Decides : (b : Bool) → Decides b (b ≡ true)
   passed-Decides b = (λ e. e, λ e. e)
 
+  -- an alias of nothing
+  empty_test : (xs : List Record) → eqb (length xs) 0 ≡ not (some_type (λ t. true) xs)
+  empty_test [] = refl
+  empty_test (x ∷ xs) = ne_eqb (length (x ∷ xs)) 0 (λ e. omega (arith, e))
+
+  missing-Decides : (target : Name) → r.rdata ≡ variants.Cname target → Decides (is_missing origin rs r target) ((t : Name) × NamesNothing origin rs r t)
+  missing-Decides target e =
+      let nothing = Decides-at (eqb (length (answering rs target)) 0) (not (some_type (λ t. true) (answering rs target))) (empty_test (answering rs target))
+      (Decides-not (some_type (λ t. true) (answering rs target)) (answers-Decides rs (λ t. true) (λ t. Unit {0}) (λ t. ((λ f. tt), (λ f. refl))) target)) in
+      Decides-like (is_missing origin rs r target)
+      (λ p. (target, record { named = e; visible = p.0.1; within = p.0.0.0; answered = p.0.0.1; nothing = p.1 }))
+      (λ f.
+      let same : f.0 ≡ target = (let g : variants.Cname f.0 ≡ variants.Cname target = sym f.1.named ∙ e in cc) in
+      subst (λ (t : Name). ((IsWithin t origin × ¬ IsDelegated origin rs t) × ¬ IsOccluded origin rs r) × ¬ AnswersWith (λ s. Unit {0}) rs t) same
+      (((f.1.within, f.1.answered), f.1.visible), f.1.nothing))
+      (Decides-and (is_within target origin && not (is_delegated origin rs target) && not (is_occluded origin rs r)) (eqb (length (answering rs target)) 0)
+      (Decides-and (is_within target origin && not (is_delegated origin rs target)) (not (is_occluded origin rs r))
+      (Decides-and (is_within target origin) (not (is_delegated origin rs target)) (is_within-Decides target origin)
+      (Decides-not (is_delegated origin rs target) (delegated-Decides origin rs target))) (Decides-not (is_occluded origin rs r) (occluded-Decides origin rs r))) nothing)
+
+  -- data of another type are no alias
+  no_alias : (d : Data) → ((target : Name) → d ≡ variants.Cname target → ⊥) → r.rdata ≡ d → Decides false ((t : Name) × NamesNothing origin rs r t)
+  no_alias d other e = (λ f. absurd cc, λ f. absurd (other f.0 (sym e ∙ f.1.named)))
+
+  dangles-Decides : (d : Data) → r.rdata ≡ d → Decides (dangles_by origin rs r d) ((t : Name) × NamesNothing origin rs r t)
+  dangles-Decides (variants.Cname target) e = missing-Decides target e
+  dangles-Decides rdata e = no_alias rdata (λ target f. cc) e
+
   -- a test tells whether a record is at fault by its rule
   pub fault-Decides : (rule : ZoneRule) → Decides (is_at_fault rule origin rs r) (IsAtFault rule origin rs r)
   fault-Decides HostName = failed-Decides (has_host_names r)
@@ -357,3 +385,4 @@ module _ (origin : Name) (rs : List Record) (r : Record) where
   fault-Decides WeakDigest = passed-Decides (is_sha1 r.rdata)
   fault-Decides AddressName = passed-Decides (points_to_address r.rdata)
   fault-Decides UnreadOctet = passed-Decides (is_unread_record r)
+  fault-Decides DanglingAlias = dangles-Decides r.rdata refl

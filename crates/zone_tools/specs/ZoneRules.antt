@@ -10,7 +10,7 @@ use Rattle.dns_data.specs.declared.rdata.Data.TheVariants as variants
 use Rattle.dns_data.specs.Rdata.{type_of}
 use Rattle.zone_core.specs.Delegations.{IsCutAt, HasAddress}
 use Rattle.zone_tools.specs.declared.zone_rule.ZoneRule.{ZoneRule}
-use Rattle.zone_tools.specs.declared.zone_rule.ZoneRule.TheVariants.{HostName, AliasTarget, MissingAddress, MissingGlue, BelowCut, DsWithoutNs, WildcardNs, DigestLength, WeakDigest, AddressName, UnreadOctet}
+use Rattle.zone_tools.specs.declared.zone_rule.ZoneRule.TheVariants.{HostName, AliasTarget, MissingAddress, MissingGlue, BelowCut, DsWithoutNs, WildcardNs, DigestLength, WeakDigest, AddressName, UnreadOctet, DanglingAlias}
 use Rattle.zone_tools.specs.HostNames.{has_host_names}
 use Rattle.zone_tools.specs.RecordFaults.{is_wildcard_server, is_fit_digest, is_sha1, points_to_address, is_unread_record}
 
@@ -19,7 +19,7 @@ use Rattle.zone_tools.specs.RecordFaults.{is_wildcard_server, is_fit_digest, is_
 -- the rules that there are
 abbrev pub all_rules : List ZoneRule
 all_rules =
-    HostName ∷ AliasTarget ∷ MissingAddress ∷ MissingGlue ∷ BelowCut ∷ DsWithoutNs ∷ WildcardNs ∷ DigestLength ∷ WeakDigest ∷ AddressName ∷ UnreadOctet ∷ []
+    HostName ∷ AliasTarget ∷ MissingAddress ∷ MissingGlue ∷ BelowCut ∷ DsWithoutNs ∷ WildcardNs ∷ DigestLength ∷ WeakDigest ∷ AddressName ∷ UnreadOctet ∷ DanglingAlias ∷ []
 
 -- the word for a rule, what is wrong by it, and where the standards have it
 pub record RuleRow : Type 0 where
@@ -65,6 +65,9 @@ row_of AddressName =
 row_of UnreadOctet =
     row (codes "unread-octet") (codes "a name has one of ! # % & ' + , : < = > ? [ ] ^ ` { | } ~, which Knot does not read")
     (codes "RFC 1035 section 5.1")
+row_of DanglingAlias =
+    row (codes "dangling-alias") (codes "the target of the alias is in this zone and has no records there")
+    (codes "RFC 1034 section 3.6.2")
 
 abbrev pub rule_text : ZoneRule → List ℕ
 rule_text rule = (row_of rule).text
@@ -92,6 +95,7 @@ rule_place DigestLength = 7
 rule_place WeakDigest = 8
 rule_place AddressName = 9
 rule_place UnreadOctet = 10
+rule_place DanglingAlias = 11
 
 -- ---- servers
 
@@ -177,6 +181,14 @@ pub record NamesDelegatedServer (origin : List (List ℕ)) (rs : List Record) (r
   pub cut : IsBelow r.owner origin
   pub delegated : IsDelegated origin rs server
 
+-- An alias that is not occluded has a target for which the zone answers, with no record.
+pub record NamesNothing (origin : List (List ℕ)) (rs : List Record) (r : Record) (target : List (List ℕ)) : Type 0 where
+  pub named : r.rdata ≡ variants.Cname target
+  pub visible : ¬ IsOccluded origin rs r
+  pub within : IsWithin target origin
+  pub answered : ¬ IsDelegated origin rs target
+  pub nothing : ¬ AnswersWith (λ t. Unit {0}) rs target
+
 -- A record of a zone is at fault by a rule:
 -- a name that has to be that of a host is not (RFC 952, RFC 1123 section 2.1);
 -- the server that it names is an alias (RFC 2181 section 10.3, RFC 2782);
@@ -188,7 +200,8 @@ pub record NamesDelegatedServer (origin : List (List ℕ)) (rs : List Record) (r
 -- it is a DS whose digest has not the length of its type (RFC 4034 section 5.1, RFC 4509 section 2.1, RFC 6605 section 2);
 -- it is a DS with a digest of SHA-1 (RFC 8624 section 3.3);
 -- the name to which it points is an IPv4 address (RFC 1123 section 2.1);
--- a name of it has an octet that Knot does not read as it is printed.
+-- a name of it has an octet that Knot does not read as it is printed;
+-- it is an alias, and its target has no records, where the zone would answer with one (RFC 1034 section 3.6.2).
 abbrev pub IsAtFault : ZoneRule → List (List ℕ) → List Record → Record → Type 0
 IsAtFault HostName origin rs r = has_host_names r ≡ false
 IsAtFault AliasTarget origin rs r = (server : List (List ℕ)) × NamesOwnServer origin rs r server × IsAlias rs server
@@ -202,3 +215,4 @@ IsAtFault DigestLength origin rs r = is_fit_digest r.rdata ≡ false
 IsAtFault WeakDigest origin rs r = is_sha1 r.rdata ≡ true
 IsAtFault AddressName origin rs r = points_to_address r.rdata ≡ true
 IsAtFault UnreadOctet origin rs r = is_unread_record r ≡ true
+IsAtFault DanglingAlias origin rs r = (target : List (List ℕ)) × NamesNothing origin rs r target

@@ -1,10 +1,12 @@
 -- The same as tests that compute.
-use Rattle.std.specs.Prelude.{◌≡◌, ℕ, List, [], ◌∷◌, Bool, true, false, not, ◌&&◌, ◌||◌, ◌==◌, if◌then◌else◌, Option, Some, None}
+use Rattle.std.specs.Prelude.{◌≡◌, ℕ, List, [], ◌∷◌, length, Bool, true, false, not, ◌&&◌, ◌||◌, ◌==◌, if◌then◌else◌, Option, Some, None}
 use Rattle.std.specs.List.{filter, list_any}
 use Rattle.std.specs.List.Sorted.{IsSorted}
 use Rattle.dns_names.specs.Labels.{is_within}
 use Rattle.dns_names.specs.Order.{canonical_cmp, same_name}
 use Rattle.dns_data.specs.declared.record.Record.{Record}
+use Rattle.dns_data.specs.declared.rdata.Data.{Data}
+use Rattle.dns_data.specs.declared.rdata.Data.TheVariants as variants
 use Rattle.dns_data.specs.declared.record_type.RecordType.{RecordType}
 use Rattle.dns_data.specs.declared.record_type.RecordType.TheVariants as types
 use Rattle.dns_data.specs.Rdata.{type_of}
@@ -13,7 +15,8 @@ use Rattle.zone_core.specs.Sets as sets
 use Rattle.zone_core.specs.Outermost.{AreApart}
 use Rattle.zone_core.specs.Delegations.{is_below, servers_in}
 use Rattle.zone_tools.specs.declared.zone_rule.ZoneRule.{ZoneRule}
-use Rattle.zone_tools.specs.declared.zone_rule.ZoneRule.TheVariants.{HostName, AliasTarget, MissingAddress, MissingGlue, BelowCut, DsWithoutNs, WildcardNs, DigestLength, WeakDigest, AddressName, UnreadOctet}
+use Rattle.zone_tools.specs.declared.zone_rule.ZoneRule.TheVariants.{HostName, AliasTarget, MissingAddress, MissingGlue, BelowCut, DsWithoutNs, WildcardNs, DigestLength, WeakDigest, AddressName, UnreadOctet, DanglingAlias}
+use Rattle.zone_tools.specs.declared.zone_faults.Lookups.{Lookups}
 use Rattle.zone_tools.specs.declared.zone_survey.Survey.{Survey}
 use Rattle.zone_tools.specs.HostNames.{has_host_names}
 use Rattle.zone_tools.specs.RecordFaults.{is_wildcard_server, is_fit_digest, is_sha1, points_to_address, is_unread_record}
@@ -135,6 +138,23 @@ broken_by_server origin rs r (Some server) = broken_by origin rs r server
 abbrev pub server_rule : List (List ℕ) → List Record → Record → Option ZoneRule
 server_rule origin rs r = broken_by_server origin rs r (server_of r.rdata)
 
+-- whether the zone answers for the target of an alias that is not occluded, with no record
+abbrev pub is_missing : List (List ℕ) → List Record → Record → List (List ℕ) → Bool
+is_missing origin rs r target =
+    is_within target origin && not (is_delegated origin rs target) && not (is_occluded origin rs r) && (length (answering rs target) == 0)
+
+abbrev pub dangles_by : List (List ℕ) → List Record → Record → Data → Bool
+dangles_by origin rs r (variants.Cname target) = is_missing origin rs r target
+dangles_by origin rs r rdata = false
+
+abbrev pub dangles : List (List ℕ) → List Record → Record → Bool
+dangles origin rs r = dangles_by origin rs r r.rdata
+
+-- what is looked up for a record: the rule that it breaks by its server, and whether it is an alias of nothing
+pub record AreLookups (origin : List (List ℕ)) (rs : List Record) (r : Record) (lookups : Lookups) : Type 0 where
+  pub broken : lookups.broken ≡ server_rule origin rs r
+  pub dangles : lookups.dangles ≡ dangles origin rs r
+
 abbrev pub is_rule : ZoneRule → Option ZoneRule → Bool
 is_rule rule None = false
 is_rule rule (Some other) = rule_place other == rule_place rule
@@ -148,4 +168,5 @@ is_at_fault DigestLength origin rs r = not (is_fit_digest r.rdata)
 is_at_fault WeakDigest origin rs r = is_sha1 r.rdata
 is_at_fault AddressName origin rs r = points_to_address r.rdata
 is_at_fault UnreadOctet origin rs r = is_unread_record r
+is_at_fault DanglingAlias origin rs r = dangles origin rs r
 is_at_fault rule origin rs r = is_rule rule (server_rule origin rs r)

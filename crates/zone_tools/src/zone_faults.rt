@@ -3,7 +3,7 @@
 ghost use Rattle.std.specs.Prelude.{◌≡◌, ◌++◌, IfOk};
 ghost use Rattle.zone_core.specs.Sets.{listing};
 ghost use Rattle.zone_tools.specs.ZoneRules.{server_of};
-ghost use Rattle.zone_tools.specs.ZoneTests.{IsSurvey, glue_rule, answer_rule, own_rule, is_sound, broken_by, server_rule, is_rule, is_at_fault};
+ghost use Rattle.zone_tools.specs.ZoneTests.{IsSurvey, glue_rule, answer_rule, own_rule, is_sound, broken_by, server_rule, is_missing, dangles, AreLookups, is_rule, is_at_fault};
 ghost use Rattle.zone_tools.specs.ZoneFindings.{finding_by, findings_by, findings_at};
 
 use crate::host_names::has_host_names;
@@ -16,7 +16,7 @@ use crate::zone_rule::ZoneRule;
 use crate::zone_survey::{
     Survey, has_address, has_cname, has_ns, is_address, is_cut, is_ds, server_of,
 };
-use dns_data::Record;
+use dns_data::{Data, Record};
 use dns_names::Name;
 use std::alloc::{AllocError, Global};
 
@@ -106,6 +106,53 @@ fn server_rule(
     }
 }
 
+/// Whether the zone answers for the target of an alias that is not occluded, with no record. The only error is out of memory.
+fn is_missing(
+    alloc: Global,
+    survey: &Survey<'_>,
+    rr: &Record,
+    target: &Name,
+) -> Result<bool, AllocError>
+    requires { IsSurvey survey.now }
+    ensures { IfOk result (λ is. is ≡ is_missing survey.now.zone.now.origin (listing survey.now.zone.now.records) rr.now target.now) }
+{
+    let is_answered = target.is_within(survey.zone.origin()) && !survey.is_delegated(target);
+    if !is_answered || survey.is_occluded(rr) {
+        return Ok(false);
+    }
+    Ok(answering(alloc, survey.zone, target)?.is_empty())
+}
+
+/// Whether a record is an alias of nothing. The only error is out of memory.
+fn dangles(alloc: Global, survey: &Survey<'_>, rr: &Record) -> Result<bool, AllocError>
+    requires { IsSurvey survey.now }
+    ensures { IfOk result (λ is. is ≡ dangles survey.now.zone.now.origin (listing survey.now.zone.now.records) rr.now) }
+{
+    match &rr.rdata {
+        Data::Cname(target) => is_missing(alloc, survey, rr, target),
+        _ => Ok(false),
+    }
+}
+
+/// What is looked up for a record.
+#[derive(Clone, Copy)]
+struct Lookups {
+    /// The rule that it breaks by the server that it names.
+    broken: Option<ZoneRule>,
+    /// Whether it is an alias of nothing.
+    dangles: bool,
+}
+
+/// What is looked up for a record. The only error is out of memory.
+fn looked_up(alloc: Global, survey: &Survey<'_>, rr: &Record) -> Result<Lookups, AllocError>
+    requires { IsSurvey survey.now }
+    ensures { IfOk result (λ lookups. AreLookups survey.now.zone.now.origin (listing survey.now.zone.now.records) rr.now lookups) }
+{
+    let broken = server_rule(alloc, survey, rr)?;
+    let dangles = dangles(alloc, survey, rr)?;
+    Ok(Lookups { broken, dangles })
+}
+
 /// Whether a rule is this one.
 fn is_rule(rule: ZoneRule, other: Option<ZoneRule>) -> bool
     ensures { result ≡ is_rule rule other }
@@ -131,10 +178,10 @@ fn lacks_ns(survey: &Survey<'_>, rr: &Record) -> bool
     is_ds(rr) && !has_ns(records_at(survey.zone, &rr.owner))
 }
 
-/// Whether a record is at fault by a rule. `broken` is the rule that it breaks by the server that it names.
-fn is_at_fault(survey: &Survey<'_>, rr: &Record, broken: Option<ZoneRule>, rule: ZoneRule) -> bool
+/// Whether a record is at fault by a rule.
+fn is_at_fault(survey: &Survey<'_>, rr: &Record, lookups: Lookups, rule: ZoneRule) -> bool
     requires survey { IsSurvey survey.now }
-    requires broken { broken ≡ server_rule survey.now.zone.now.origin (listing survey.now.zone.now.records) rr.now }
+    requires lookups { AreLookups survey.now.zone.now.origin (listing survey.now.zone.now.records) rr.now lookups }
     ensures { result ≡ is_at_fault rule survey.now.zone.now.origin (listing survey.now.zone.now.records) rr.now }
 {
     match rule {
@@ -146,8 +193,9 @@ fn is_at_fault(survey: &Survey<'_>, rr: &Record, broken: Option<ZoneRule>, rule:
         ZoneRule::WeakDigest => is_sha1(&rr.rdata),
         ZoneRule::AddressName => points_to_address(&rr.rdata),
         ZoneRule::UnreadOctet => is_unread_record(rr),
+        ZoneRule::DanglingAlias => lookups.dangles,
         ZoneRule::AliasTarget | ZoneRule::MissingAddress | ZoneRule::MissingGlue => {
-            is_rule(rule, broken)
+            is_rule(rule, lookups.broken)
         }
     }
 }
@@ -156,15 +204,15 @@ fn is_at_fault(survey: &Survey<'_>, rr: &Record, broken: Option<ZoneRule>, rule:
 fn with_finding(
     survey: &Survey<'_>,
     rr: &Record,
-    broken: Option<ZoneRule>,
+    lookups: Lookups,
     mut found: Vec<Finding>,
     finding: Finding,
 ) -> Result<Vec<Finding>, AllocError>
     requires survey { IsSurvey survey.now }
-    requires broken { broken ≡ server_rule survey.now.zone.now.origin (listing survey.now.zone.now.records) rr.now }
+    requires lookups { AreLookups survey.now.zone.now.origin (listing survey.now.zone.now.records) rr.now lookups }
     ensures { IfOk result (λ all. all.items ≡ found.items ++ finding_by survey.now.zone.now.origin (listing survey.now.zone.now.records) rr.now finding) }
 {
-    if is_at_fault(survey, rr, broken, finding.rule) {
+    if is_at_fault(survey, rr, lookups, finding.rule) {
         found.push(finding)?;
     }
     Ok(found)
@@ -183,10 +231,10 @@ fn with_findings_by(
     ensures { IfOk result
         (λ all. all.items ≡ found.items ++ findings_by survey.now.zone.now.origin (listing survey.now.zone.now.records) place rr.now rules.now) }
 {
-    let broken = server_rule(alloc, survey, rr)?;
+    let lookups = looked_up(alloc, survey, rr)?;
     for rule in rules {
         let finding = Finding { place, rule: *rule };
-        found = with_finding(survey, rr, broken, found, finding)?;
+        found = with_finding(survey, rr, lookups, found, finding)?;
     }
     Ok(found)
 }

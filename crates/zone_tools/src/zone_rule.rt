@@ -27,13 +27,15 @@ pub enum ZoneRule {
     AddressName,
     /// A name has an octet that Knot does not read as it is printed.
     UnreadOctet,
+    /// The target of an alias has no records in the zone that answers for it.
+    DanglingAlias,
 }
 
 impl ZoneRule {
     ghost use Rattle.zone_tools.specs.ZoneRules.{rule_text, rule_reason, rule_source, rule_place, rule_of};
 
     /// The rules that there are.
-    pub const ALL: [ZoneRule; 11] = [
+    pub const ALL: [ZoneRule; 12] = [
         ZoneRule::HostName,
         ZoneRule::AliasTarget,
         ZoneRule::MissingAddress,
@@ -45,6 +47,7 @@ impl ZoneRule {
         ZoneRule::WeakDigest,
         ZoneRule::AddressName,
         ZoneRule::UnreadOctet,
+        ZoneRule::DanglingAlias,
     ];
 
     /// The word for it, as `host-name`.
@@ -63,6 +66,7 @@ impl ZoneRule {
             ZoneRule::WeakDigest => "weak-digest",
             ZoneRule::AddressName => "address-name",
             ZoneRule::UnreadOctet => "unread-octet",
+            ZoneRule::DanglingAlias => "dangling-alias",
         }
     }
 
@@ -96,6 +100,8 @@ impl ZoneRule {
             ZoneRule::AddressName => "the name to which the record points is an IPv4 address",
             ZoneRule::UnreadOctet =>
                 "a name has one of ! # % & ' + , : < = > ? [ ] ^ ` { | } ~, which Knot does not read",
+            ZoneRule::DanglingAlias =>
+                "the target of the alias is in this zone and has no records there",
         }
     }
 
@@ -116,6 +122,7 @@ impl ZoneRule {
             ZoneRule::WeakDigest => "RFC 8624 section 3.3",
             ZoneRule::AddressName => "RFC 1035 section 3.3, RFC 1123 section 2.1",
             ZoneRule::UnreadOctet => "RFC 1035 section 5.1",
+            ZoneRule::DanglingAlias => "RFC 1034 section 3.6.2",
         }
     }
 
