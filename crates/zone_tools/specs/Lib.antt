@@ -8,3 +8,4 @@ pub mod RecordFaults
 pub mod ZoneRules
 pub mod ZoneTests
 pub mod ZoneFindings
+pub mod ServerReactions

@@ -8,6 +8,7 @@
 mod difference;
 mod host_names;
 mod laws;
+mod name_server;
 mod pointers;
 mod record_faults;
 mod reverse_blocks;
@@ -22,6 +23,7 @@ mod zone_survey;
 
 pub use difference::operations_between;
 pub use laws::{clean_zones_have_glue, pointers_are_one};
+pub use name_server::{NameServer, Reaction};
 pub use pointers::reverse_pointers;
 pub use same::{is_equal, is_same};
 pub use shared::shared_addresses;
