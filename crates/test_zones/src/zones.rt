@@ -5,6 +5,7 @@ mod differences;
 pub mod lines;
 mod parsed_rows;
 mod serials;
+mod tools;
 mod updates;
 
 use crate::refusal::Refusal;
@@ -13,6 +14,7 @@ use crate::zones::differences::push_difference;
 use crate::zones::lines::{push, push_name, push_number, push_records};
 use crate::zones::parsed_rows::{file, name, record_type};
 use crate::zones::serials::{push_less, push_sum};
+use crate::zones::tools::{push_faults, push_pointers, push_shared};
 use crate::zones::updates::{push_outside, push_same, push_update, push_with_update};
 use dns_data::{Record, record_line};
 use dns_names::Name;
@@ -80,6 +82,7 @@ fn answer_of_zone(
         "tells" => push_told(alloc, zone, answer),
         "at" | "set" | "within" => push_listed(alloc, zone, row, answer),
         "report" => push_report(alloc, zone, answer),
+        "faults" => push_faults(alloc, zone, answer),
         "holds" | "change" | "after" | "serial-after" => {
             push_with_update(alloc, zone, row, answer)
         }
@@ -107,6 +110,8 @@ fn answer_without_zone(alloc: Global, row: &Row<'_>, answer: &mut Vec<u8>) -> Re
         "same" => push_same(alloc, &row.text, &row.body, answer),
         "delegate" => push_delegation(alloc, row, answer),
         "delegate-count" => push_count(alloc, row, answer),
+        "pointers" => push_pointers(alloc, row, answer),
+        "shared" => push_shared(alloc, row, answer),
         "less" => push_less(first, rest, answer),
         "sum" => push_sum(alloc, first, rest, answer),
         "no-memory" if first == b"zone".as_slice() => Err(Refusal::Zone(ZoneFault::NoMemory)),

@@ -17,7 +17,7 @@ use Rattle.zone_core.specs.Delegations.{is_below, server_in, servers_in, IsCutAt
 use Rattle.zone_core.proofs.MetLemmas.{Among, among_of, of_among, any_is, is_any, among_append}
 use Rattle.zone_core.proofs.BelowLemmas.{Name, below-Decides, within_within}
 use Rattle.zone_tools.specs.declared.zone_rule.ZoneRule.{ZoneRule}
-use Rattle.zone_tools.specs.declared.zone_rule.ZoneRule.TheVariants.{HostName, AliasTarget, MissingAddress, MissingGlue, BelowCut, DsWithoutNs, WildcardNs, DigestLength, Sha1Digest, AddressName, UnreadOctet, DanglingAlias}
+use Rattle.zone_tools.specs.declared.zone_rule.ZoneRule.TheVariants.{HostName, AliasTarget, MissingAddress, MissingGlue, BelowCut, DsWithoutNs, WildcardNs, DigestLength, WeakDigest, AddressName, UnreadOctet, DanglingAlias}
 use Rattle.zone_tools.specs.HostNames.{has_host_names}
 use Rattle.zone_tools.specs.RecordFaults.{is_wildcard_server, is_fit_digest, is_sha1, points_to_address, is_unread_record}
 use Rattle.zone_tools.specs.ZoneRules.{server_of, HasType, IsAlias, IsAddressed, IsDelegated, IsBelowCut, IsOccluded, IsGlue, AnswersWith, NamesNothing, IsAtFault}
@@ -382,7 +382,7 @@ module _ (origin : Name) (rs : List Record) (r : Record) where
       (Decides-not (some_type is_ns (records_at rs r.owner)) (has_type-Decides rs is_ns types.Ns ns_type r.owner))
   fault-Decides WildcardNs = passed-Decides (is_wildcard_server r.owner r.rdata)
   fault-Decides DigestLength = failed-Decides (is_fit_digest r.rdata)
-  fault-Decides Sha1Digest = passed-Decides (is_sha1 r.rdata)
+  fault-Decides WeakDigest = passed-Decides (is_sha1 r.rdata)
   fault-Decides AddressName = passed-Decides (points_to_address r.rdata)
   fault-Decides UnreadOctet = passed-Decides (is_unread_record r)
   fault-Decides DanglingAlias = dangles-Decides r.rdata refl

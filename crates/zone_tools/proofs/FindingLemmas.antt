@@ -19,7 +19,7 @@ use Rattle.zone_core.specs.Delegations.{HasAddress}
 use Rattle.zone_core.proofs.MetLemmas.{Among, among_of, of_among, among_append}
 use Rattle.zone_core.proofs.BelowLemmas.{Name, no_test}
 use Rattle.zone_tools.specs.declared.zone_rule.ZoneRule.{ZoneRule}
-use Rattle.zone_tools.specs.declared.zone_rule.ZoneRule.TheVariants.{HostName, AliasTarget, MissingAddress, MissingGlue, BelowCut, DsWithoutNs, WildcardNs, DigestLength, Sha1Digest, AddressName, UnreadOctet, DanglingAlias}
+use Rattle.zone_tools.specs.declared.zone_rule.ZoneRule.TheVariants.{HostName, AliasTarget, MissingAddress, MissingGlue, BelowCut, DsWithoutNs, WildcardNs, DigestLength, WeakDigest, AddressName, UnreadOctet, DanglingAlias}
 use Rattle.zone_tools.specs.declared.zone_finding.Finding.{Finding}
 use Rattle.zone_tools.specs.ZoneRules.{all_rules, rule_place, IsOccluded, IsAtFault}
 use Rattle.zone_tools.specs.ZoneTests.{is_address, records_at, some_type, is_at_fault}
@@ -58,7 +58,7 @@ every_rule BelowCut = inr (inr (inr (inr (inl refl))))
 every_rule DsWithoutNs = inr (inr (inr (inr (inr (inl refl)))))
 every_rule WildcardNs = inr (inr (inr (inr (inr (inr (inl refl))))))
 every_rule DigestLength = inr (inr (inr (inr (inr (inr (inr (inl refl)))))))
-every_rule Sha1Digest = inr (inr (inr (inr (inr (inr (inr (inr (inl refl))))))))
+every_rule WeakDigest = inr (inr (inr (inr (inr (inr (inr (inr (inl refl))))))))
 every_rule AddressName = inr (inr (inr (inr (inr (inr (inr (inr (inr (inl refl)))))))))
 every_rule UnreadOctet = inr (inr (inr (inr (inr (inr (inr (inr (inr (inr (inl refl))))))))))
 every_rule DanglingAlias = inr (inr (inr (inr (inr (inr (inr (inr (inr (inr (inr (inl refl)))))))))))

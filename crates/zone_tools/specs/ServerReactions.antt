@@ -1,7 +1,7 @@
 -- What name servers do with records that are at fault.
 use Rattle.std.specs.Prelude.{ℕ, List, [], ◌∷◌, codes, Option, find, bytes_eq}
 use Rattle.zone_tools.specs.declared.zone_rule.ZoneRule.{ZoneRule}
-use Rattle.zone_tools.specs.declared.zone_rule.ZoneRule.TheVariants.{HostName, AliasTarget, MissingAddress, MissingGlue, WildcardNs, DigestLength, Sha1Digest, AddressName, UnreadOctet}
+use Rattle.zone_tools.specs.declared.zone_rule.ZoneRule.TheVariants.{HostName, AliasTarget, MissingAddress, MissingGlue, WildcardNs, DigestLength, WeakDigest, AddressName, UnreadOctet}
 use Rattle.zone_tools.specs.declared.name_server.NameServer.{NameServer}
 use Rattle.zone_tools.specs.declared.name_server.NameServer.TheVariants.{Bind, Knot, Nsd}
 use Rattle.zone_tools.specs.declared.name_server.Reaction.{Reaction}
@@ -36,7 +36,7 @@ bind_reaction MissingAddress = Refuses
 bind_reaction MissingGlue = Warns
 bind_reaction WildcardNs = Refuses
 bind_reaction DigestLength = Refuses
-bind_reaction Sha1Digest = Warns
+bind_reaction WeakDigest = Warns
 bind_reaction AddressName = Warns
 bind_reaction rule = Takes
 

@@ -10,7 +10,7 @@ use Rattle.dns_data.specs.declared.rdata.Data.TheVariants as variants
 use Rattle.dns_data.specs.Rdata.{type_of}
 use Rattle.zone_core.specs.Delegations.{IsCutAt, HasAddress}
 use Rattle.zone_tools.specs.declared.zone_rule.ZoneRule.{ZoneRule}
-use Rattle.zone_tools.specs.declared.zone_rule.ZoneRule.TheVariants.{HostName, AliasTarget, MissingAddress, MissingGlue, BelowCut, DsWithoutNs, WildcardNs, DigestLength, Sha1Digest, AddressName, UnreadOctet, DanglingAlias}
+use Rattle.zone_tools.specs.declared.zone_rule.ZoneRule.TheVariants.{HostName, AliasTarget, MissingAddress, MissingGlue, BelowCut, DsWithoutNs, WildcardNs, DigestLength, WeakDigest, AddressName, UnreadOctet, DanglingAlias}
 use Rattle.zone_tools.specs.HostNames.{has_host_names}
 use Rattle.zone_tools.specs.RecordFaults.{is_wildcard_server, is_fit_digest, is_sha1, points_to_address, is_unread_record}
 
@@ -19,7 +19,7 @@ use Rattle.zone_tools.specs.RecordFaults.{is_wildcard_server, is_fit_digest, is_
 -- the rules that there are
 abbrev pub all_rules : List ZoneRule
 all_rules =
-    HostName ∷ AliasTarget ∷ MissingAddress ∷ MissingGlue ∷ BelowCut ∷ DsWithoutNs ∷ WildcardNs ∷ DigestLength ∷ Sha1Digest ∷ AddressName ∷ UnreadOctet ∷ DanglingAlias ∷ []
+    HostName ∷ AliasTarget ∷ MissingAddress ∷ MissingGlue ∷ BelowCut ∷ DsWithoutNs ∷ WildcardNs ∷ DigestLength ∷ WeakDigest ∷ AddressName ∷ UnreadOctet ∷ DanglingAlias ∷ []
 
 -- the word for a rule, what is wrong by it, and where the standards have it
 pub record RuleRow : Type 0 where
@@ -56,8 +56,8 @@ row_of WildcardNs =
 row_of DigestLength =
     row (codes "digest-length") (codes "the digest of a DS has not the length of its type")
     (codes "RFC 4034 section 5.1, RFC 4509 section 2.1, RFC 6605 section 2")
-row_of Sha1Digest =
-    row (codes "sha1-digest") (codes "the digest of a DS is of SHA-1")
+row_of WeakDigest =
+    row (codes "weak-digest") (codes "the digest of a DS is of SHA-1")
     (codes "RFC 8624 section 3.3")
 row_of AddressName =
     row (codes "address-name") (codes "the name to which the record points is an IPv4 address")
@@ -92,7 +92,7 @@ rule_place BelowCut = 4
 rule_place DsWithoutNs = 5
 rule_place WildcardNs = 6
 rule_place DigestLength = 7
-rule_place Sha1Digest = 8
+rule_place WeakDigest = 8
 rule_place AddressName = 9
 rule_place UnreadOctet = 10
 rule_place DanglingAlias = 11
@@ -212,7 +212,7 @@ IsAtFault BelowCut origin rs r = IsOccluded origin rs r × ¬ IsGlue rs r
 IsAtFault DsWithoutNs origin rs r = (type_of r.rdata ≡ types.Ds) × ¬ HasType rs r.owner types.Ns
 IsAtFault WildcardNs origin rs r = is_wildcard_server r.owner r.rdata ≡ true
 IsAtFault DigestLength origin rs r = is_fit_digest r.rdata ≡ false
-IsAtFault Sha1Digest origin rs r = is_sha1 r.rdata ≡ true
+IsAtFault WeakDigest origin rs r = is_sha1 r.rdata ≡ true
 IsAtFault AddressName origin rs r = points_to_address r.rdata ≡ true
 IsAtFault UnreadOctet origin rs r = is_unread_record r ≡ true
 IsAtFault DanglingAlias origin rs r = (target : List (List ℕ)) × NamesNothing origin rs r target

@@ -15,7 +15,7 @@ use Rattle.zone_core.specs.Sets as sets
 use Rattle.zone_core.specs.Outermost.{AreApart}
 use Rattle.zone_core.specs.Delegations.{is_below, servers_in}
 use Rattle.zone_tools.specs.declared.zone_rule.ZoneRule.{ZoneRule}
-use Rattle.zone_tools.specs.declared.zone_rule.ZoneRule.TheVariants.{HostName, AliasTarget, MissingAddress, MissingGlue, BelowCut, DsWithoutNs, WildcardNs, DigestLength, Sha1Digest, AddressName, UnreadOctet, DanglingAlias}
+use Rattle.zone_tools.specs.declared.zone_rule.ZoneRule.TheVariants.{HostName, AliasTarget, MissingAddress, MissingGlue, BelowCut, DsWithoutNs, WildcardNs, DigestLength, WeakDigest, AddressName, UnreadOctet, DanglingAlias}
 use Rattle.zone_tools.specs.declared.zone_faults.Lookups.{Lookups}
 use Rattle.zone_tools.specs.declared.zone_survey.Survey.{Survey}
 use Rattle.zone_tools.specs.HostNames.{has_host_names}
@@ -165,7 +165,7 @@ is_at_fault BelowCut origin rs r = is_occluded origin rs r && not (is_address (t
 is_at_fault DsWithoutNs origin rs r = is_ds (type_of r.rdata) && not (some_type is_ns (records_at rs r.owner))
 is_at_fault WildcardNs origin rs r = is_wildcard_server r.owner r.rdata
 is_at_fault DigestLength origin rs r = not (is_fit_digest r.rdata)
-is_at_fault Sha1Digest origin rs r = is_sha1 r.rdata
+is_at_fault WeakDigest origin rs r = is_sha1 r.rdata
 is_at_fault AddressName origin rs r = points_to_address r.rdata
 is_at_fault UnreadOctet origin rs r = is_unread_record r
 is_at_fault DanglingAlias origin rs r = dangles origin rs r

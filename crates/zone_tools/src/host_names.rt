@@ -161,8 +161,8 @@ fn is_of_ipv6(name: &Name) -> bool
     name.key().starts_with(b"arpa\0ip6\0")
 }
 
-/// Whether a name stands for an address (RFC 1035 section 3.5, RFC 3596 section 2.5).
-fn is_reverse(name: &Name) -> bool
+/// Whether a name is within `in-addr.arpa` or `ip6.arpa`, where names stand for addresses (RFC 1035 section 3.5, RFC 3596 section 2.5).
+pub fn is_reverse(name: &Name) -> bool
     ensures { result ≡ is_reverse name.now }
 {
     is_of_ipv4(name) || is_of_ipv6(name)

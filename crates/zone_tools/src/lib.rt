@@ -22,6 +22,7 @@ mod zone_rule;
 mod zone_survey;
 
 pub use difference::operations_between;
+pub use host_names::is_reverse;
 pub use laws::{clean_zones_have_glue, pointers_are_one};
 pub use name_server::{NameServer, Reaction};
 pub use pointers::reverse_pointers;

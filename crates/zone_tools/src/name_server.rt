@@ -78,7 +78,7 @@ const fn bind_reaction(rule: ZoneRule) -> Reaction
         | ZoneRule::MissingAddress
         | ZoneRule::WildcardNs
         | ZoneRule::DigestLength => Reaction::Refuses,
-        ZoneRule::MissingGlue | ZoneRule::Sha1Digest | ZoneRule::AddressName => Reaction::Warns,
+        ZoneRule::MissingGlue | ZoneRule::WeakDigest | ZoneRule::AddressName => Reaction::Warns,
         ZoneRule::BelowCut
         | ZoneRule::DsWithoutNs
         | ZoneRule::UnreadOctet
@@ -100,7 +100,7 @@ const fn knot_reaction(rule: ZoneRule) -> Reaction
         | ZoneRule::BelowCut
         | ZoneRule::DsWithoutNs
         | ZoneRule::WildcardNs
-        | ZoneRule::Sha1Digest
+        | ZoneRule::WeakDigest
         | ZoneRule::AddressName
         | ZoneRule::DanglingAlias => Reaction::Takes,
     }

@@ -190,7 +190,7 @@ fn is_at_fault(survey: &Survey<'_>, rr: &Record, lookups: Lookups, rule: ZoneRul
         ZoneRule::DsWithoutNs => lacks_ns(survey, rr),
         ZoneRule::WildcardNs => is_wildcard_server(&rr.owner, &rr.rdata),
         ZoneRule::DigestLength => !is_fit_digest(&rr.rdata),
-        ZoneRule::Sha1Digest => is_sha1(&rr.rdata),
+        ZoneRule::WeakDigest => is_sha1(&rr.rdata),
         ZoneRule::AddressName => points_to_address(&rr.rdata),
         ZoneRule::UnreadOctet => is_unread_record(rr),
         ZoneRule::DanglingAlias => lookups.dangles,

@@ -22,7 +22,7 @@ pub enum ZoneRule {
     /// The digest of a DS has not the length of its type.
     DigestLength,
     /// The digest of a DS is of SHA-1.
-    Sha1Digest,
+    WeakDigest,
     /// A record points to a name that is an IPv4 address.
     AddressName,
     /// A name has an octet that Knot does not read as it is printed.
@@ -44,7 +44,7 @@ impl ZoneRule {
         ZoneRule::DsWithoutNs,
         ZoneRule::WildcardNs,
         ZoneRule::DigestLength,
-        ZoneRule::Sha1Digest,
+        ZoneRule::WeakDigest,
         ZoneRule::AddressName,
         ZoneRule::UnreadOctet,
         ZoneRule::DanglingAlias,
@@ -63,7 +63,7 @@ impl ZoneRule {
             ZoneRule::DsWithoutNs => "ds-without-ns",
             ZoneRule::WildcardNs => "wildcard-ns",
             ZoneRule::DigestLength => "digest-length",
-            ZoneRule::Sha1Digest => "sha1-digest",
+            ZoneRule::WeakDigest => "weak-digest",
             ZoneRule::AddressName => "address-name",
             ZoneRule::UnreadOctet => "unread-octet",
             ZoneRule::DanglingAlias => "dangling-alias",
@@ -96,7 +96,7 @@ impl ZoneRule {
             ZoneRule::DsWithoutNs => "a DS is at a name without NS",
             ZoneRule::WildcardNs => "an NS is at a wildcard",
             ZoneRule::DigestLength => "the digest of a DS has not the length of its type",
-            ZoneRule::Sha1Digest => "the digest of a DS is of SHA-1",
+            ZoneRule::WeakDigest => "the digest of a DS is of SHA-1",
             ZoneRule::AddressName => "the name to which the record points is an IPv4 address",
             ZoneRule::UnreadOctet =>
                 "a name has one of ! # % & ' + , : < = > ? [ ] ^ ` { | } ~, which Knot does not read",
@@ -119,7 +119,7 @@ impl ZoneRule {
             ZoneRule::WildcardNs => "RFC 4592 section 4.2",
             ZoneRule::DigestLength =>
                 "RFC 4034 section 5.1, RFC 4509 section 2.1, RFC 6605 section 2",
-            ZoneRule::Sha1Digest => "RFC 8624 section 3.3",
+            ZoneRule::WeakDigest => "RFC 8624 section 3.3",
             ZoneRule::AddressName => "RFC 1035 section 3.3, RFC 1123 section 2.1",
             ZoneRule::UnreadOctet => "RFC 1035 section 5.1",
             ZoneRule::DanglingAlias => "RFC 1034 section 3.6.2",
