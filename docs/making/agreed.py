@@ -22,14 +22,22 @@ def differing(path, what, found, wanted):
 
 # Record types, actions, defaults
 
+def rules_of_page():
+    """The rules for zones that the page knows, in the program's order: those of a record by itself or of the names of a zone."""
+    found = re.search(r"^export const RULES = \[(.*?)\];", read("web", "rules.js"), re.M)
+    return re.findall(r'"([\w-]+)"', found[1] if found else "")
+
+
 def keys_of_page():
-    """What the page says, in each language, of each type, action and rule for zones."""
+    """What the page says, in each language, of each type and action, and of each rule for zones that it knows."""
+    known = rules_of_page()
+    yield from differing("web/rules.js", "the rules for zones", known, [rule for rule in sources.rules() if rule in known])
     tables = sorted(glob.glob(os.path.join(TOP, "web", "text-*.js")))
     for path in [os.path.relpath(table, TOP) for table in tables]:
         keys = re.findall(r'^    "?([\w -]+?)"?:', read(*path.split("/")), re.M)
         for name, wanted in ("form", sources.type_names()), ("what", sources.actions()), ("action", sources.actions()):
             yield from differing(path, f"the words of {name}", [key.split()[1] for key in keys if key.startswith(f"{name} ")], wanted)
-        yield from differing(path, "the rules for zones", [key for key in keys if key in sources.rules()], sources.rules())
+        yield from differing(path, "the rules for zones", [key for key in keys if key in sources.rules()], known)
 
 
 def stated():
@@ -41,7 +49,7 @@ def stated():
             yield f"{sources.REFUSALS} does not say: {text}"
     helps = {one.name: one.help for one in sources.arguments().values()}
     seconds = {name: f", {number} if left out" for name, number in sources.defaults().items()}
-    for name, text in {"action": actions, "only": spoken(sources.rules(), "or"), **seconds}.items():
+    for name, text in {"action": actions, **seconds}.items():
         if not helps.get(name, "").endswith(text):
             yield f"{sources.ARGUMENTS}: the help of {name} does not say: {text}"
 
