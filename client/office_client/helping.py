@@ -47,7 +47,8 @@ COMMANDS = {
                     "Item lines, as of zoneoffice diff, and nothing is sent. Between two files it is what office import --since "
                     "OLD FILE sends."),
     "import": Command("FILE", "adds the records of a master file, of a piece of one, or of a table (.csv)",
-                      "A table has rows of name and address, or of name, type and data, and perhaps a TTL. It is guarded, and sent in as many updates as it needs; killed, the same command goes on where it was. A set that "
+                      "A table has rows of name and address, or of name, type and data, and perhaps a TTL. "
+                      "It is guarded, and sent in as many updates as it needs; killed, the same command goes on where it was. A set that "
                       "is there with other records is refused, or replaced with --replace. --since OLD sends the difference between two "
                       "files, deletions too, unless somebody changed the same sets since."),
     "undo": Command("NUMBER", "takes a change back, unless something of it was changed since",
