@@ -16,7 +16,7 @@ from .options import LISTED, Options, read
 from .pending import state_folder
 from .server import LONG, Server, body_of, within
 from .tables import ACTIONS, TYPES
-from .telling import Bad, Lost, Refused
+from .telling import Bad, Lost, Refused, put
 
 FRESH = 60  # seconds in which names are not asked for again
 MOST = 20000  # names that are kept
@@ -176,4 +176,4 @@ def complete(words: list[str]) -> None:
     current = words[-1] if words else ""
     for one in found:
         if one == FILES or one.startswith(current):
-            print(one)
+            put(one)
