@@ -12,7 +12,7 @@ from .server import Reply
 from .sending import Send
 from .session import Session, with_letters
 from .tables import ACTIONS
-from .telling import Bad, Refused, clean, say
+from .telling import Bad, Refused, clean, flush, put, say
 from .update import Part, Update, delegation
 
 Lines = Callable[[dict[str, Any]], list[str]]
@@ -72,7 +72,7 @@ def run_delegate(session: Session, words: list[str]) -> int:
 def interact(session: Session, file: Any) -> int:
     """A script from a terminal: each update is sent as it is asked for."""
     statements, status = script.Script(session), 0
-    print("> ", end="", flush=True)
+    prompt()
     for number, line in enumerate(file, 1):
         if line.strip().lower() == "quit":
             break
@@ -84,8 +84,14 @@ def interact(session: Session, file: Any) -> int:
             say(error)
             status = 2 if isinstance(error, Bad) else max(status, 1)
         session.readings.clear()
-        print("> ", end="", flush=True)
+        prompt()
     return status
+
+
+def prompt() -> None:
+    """Asks for a line."""
+    put("> ", end="")
+    flush()
 
 
 def run_nsupdate(session: Session, words: list[str]) -> int:
@@ -105,7 +111,7 @@ def answer(session: Session, reply: Reply, lines: Lines) -> int:
     session.report.update(reply.fields)
     for line in lines(reply.fields):
         if not session.options.json:
-            print(with_letters(line))
+            put(with_letters(line))
     return 0
 
 
@@ -137,7 +143,7 @@ def run_file(session: Session, _words: list[str]) -> int:
         raise Refused(refusals.words(reply.fields), reply.fields)
     session.report["file"] = reply.text
     if not session.options.json:
-        print(clean(reply.text, "\n"), end="")
+        put(clean(reply.text, "\n"), end="")
     return 0
 
 

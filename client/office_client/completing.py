@@ -2,19 +2,21 @@
 
 import contextlib
 import hashlib
+import http.client
 import json
 import os
 import secrets
 import time
 import urllib.parse
+from typing import Any
 
 from . import data, names
 from .helping import CHANGING, COMMANDS
 from .options import LISTED, Options, read
 from .pending import state_folder
-from .server import LONG, Server, body_of
+from .server import LONG, Server, body_of, within
 from .tables import ACTIONS, TYPES
-from .telling import Bad, Lost, Refused
+from .telling import Bad, Lost, Refused, put
 
 FRESH = 60  # seconds in which names are not asked for again
 MOST = 20000  # names that are kept
@@ -72,9 +74,12 @@ def cached(what: str, options: Options, fetch: list[str] | None = None) -> list[
 
 
 def listed_names(options: Options) -> list[str]:
-    """The names of the zone's records that the caller may list."""
+    """The names of the zone's records that the caller may list. Where no zone is said, and the caller has one only, it is that."""
     if not options.zone:
-        return []
+        every = zones(options)
+        if len(every) != 1:
+            return []
+        options.zone = every[0]
     found = cached("names", options)
     if found:
         return found
@@ -84,7 +89,7 @@ def listed_names(options: Options) -> list[str]:
 
 
 def zones(options: Options) -> list[str]:
-    """The zones of the page's list, and that of the environment."""
+    """The caller's zones, as the page lists them, and that of the environment."""
     found = [options.zone] if options.zone else []
     kept = cached("zones", options)
     if not kept:
@@ -94,17 +99,24 @@ def zones(options: Options) -> list[str]:
 
 
 def page_zones(server: Server) -> list[str]:
-    """The zones that the page for departments lists."""
+    """The zones in which the policy gives the caller anything, or where that is not known, all that the page lists."""
+    mine = page_file(server, "my/zones.json")
+    found = mine.get("origins") if isinstance(mine, dict) else page_file(server, "zones.json")
+    return [one for one in found if isinstance(one, str) and one.isascii() and one.isprintable()] if isinstance(found, list) else []
+
+
+def page_file(server: Server, name: str) -> Any:
+    """What a JSON file of the page has, or None."""
     connection = server.connect()
     try:
-        connection.request("GET", urllib.parse.urlsplit(server.base).path + "/page/zones.json", None, server.head())
-        response = connection.getresponse()
-        found = json.loads(body_of(response, LONG)) if response.status == 200 else []
-    except ValueError:
-        found = []
+        with within(server.options.seconds):
+            connection.request("GET", f"{urllib.parse.urlsplit(server.base).path}/page/{name}", None, server.head())
+            response = connection.getresponse()
+            return json.loads(body_of(response, LONG)) if response.status == 200 else None
+    except (ValueError, RecursionError, http.client.HTTPException):
+        return None
     finally:
         connection.close()
-    return [one for one in found if isinstance(one, str) and one.isascii() and one.isprintable()] if isinstance(found, list) else []
 
 
 def parts(words: list[str]) -> tuple[list[str], str | None]:
@@ -159,9 +171,9 @@ def complete(words: list[str]) -> None:
     """Prints what the last word may become, a line each."""
     try:
         found = candidates(words)
-    except (Bad, Lost, Refused, OSError, ValueError):
+    except (Bad, Lost, Refused, OSError, ValueError, http.client.HTTPException):
         found = []
     current = words[-1] if words else ""
     for one in found:
         if one == FILES or one.startswith(current):
-            print(one)
+            put(one)

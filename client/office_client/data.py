@@ -239,10 +239,11 @@ def line_items(text: str) -> list[Item]:
 
 def word_items(kind: str, words: list[str]) -> list[Item]:
     """The items of words of a command line. A word of a TXT is one string, or strings in quotes."""
-    found: list[Item] = []
-    for word in map(names.octets, words):
-        if kind == "TXT" and not word.startswith('"'):
-            found.append(Item(re.sub(r'(["\\])', r"\\\1", word), True))
-        else:
-            found += line_items(word)
-    return found
+    return [item for word in words for item in cell_items(kind, names.octets(word))]
+
+
+def cell_items(kind: str, text: str) -> list[Item]:
+    """The same of a text of octets."""
+    if kind == "TXT" and not text.startswith('"'):
+        return [Item(re.sub(r'(["\\])', r"\\\1", text), True)]
+    return line_items(text)

@@ -46,7 +46,8 @@ COMMANDS = {
     "diff": Command("[OLD] FILE", "what leads from the zone, as you may list it, to a master file",
                     "Item lines, as of zoneoffice diff, and nothing is sent. Between two files it is what office import --since "
                     "OLD FILE sends."),
-    "import": Command("FILE", "adds the records of a master file or of a piece of one",
+    "import": Command("FILE", "adds the records of a master file, of a piece of one, or of a table (.csv)",
+                      "A table has rows of name and address, or of name, type and data, and perhaps a TTL. "
                       "It is guarded, and sent in as many updates as it needs; killed, the same command goes on where it was. A set that "
                       "is there with other records is refused, or replaced with --replace. --since OLD sends the difference between two "
                       "files, deletions too, unless somebody changed the same sets since."),
@@ -72,7 +73,7 @@ nothing changes, and refuses what name servers would not load. The identifier of
 the office has decided: after a lost reply run the same command again, and the change is made once.
 Of a reply, each character that is not printable ASCII is printed as an escape (\uXXXX).
 Status: 0 success; 1 refused, or a right is denied; 2 the request could not be sent, got no reply, or the words are wrong; 3 nothing
-changed, with --strict."""
+changed, with --strict. A reader of the output that goes away changes neither what is done nor the status."""
 
 
 def usage(name: str) -> str:

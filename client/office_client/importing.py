@@ -4,10 +4,10 @@ import hashlib
 from collections.abc import Callable
 from typing import Any
 
-from . import checking, data, master, names, planning, sending, zone
+from . import checking, data, names, planning, reading, sending, zone
 from .data import Record
 from .listing import Listing
-from .master import File
+from .master import Records
 from .pending import Pending
 from .session import Session
 from .telling import Bad, Refused
@@ -37,7 +37,7 @@ def beside_alias(old: Zone, name: str, kind: str) -> str | None:
     return None
 
 
-def sets_of(file: File) -> dict[tuple[str, str], tuple[list[Record], int]]:
+def sets_of(file: Records) -> dict[tuple[str, str], tuple[list[Record], int]]:
     """The sets of a file, each with the line of its first record."""
     found: dict[tuple[str, str], tuple[list[Record], int]] = {}
     for record, line in file.lined():
@@ -45,7 +45,7 @@ def sets_of(file: File) -> dict[tuple[str, str], tuple[list[Record], int]]:
     return found
 
 
-def with_file(session: Session, old: Zone, file: File) -> Zone:
+def with_file(session: Session, old: Zone, file: Records) -> Zone:
     """The zone with the records of a file. A set that is there with other records is a conflict, or is replaced with --replace."""
     new, wrong = old.copy(), []
     for (name, kind), (records, line) in sets_of(file).items():
@@ -65,13 +65,13 @@ def with_file(session: Session, old: Zone, file: File) -> Zone:
     return new
 
 
-def zone_of(file: File) -> Zone:
+def zone_of(file: Records) -> Zone:
     """The zone that a whole file has."""
     records = sorted((record for record, _ in file.lined()), key=data.order)
     return Zone(file.zone, records)
 
 
-def since(listed: Zone, before: File, after: File) -> tuple[Zone, Zone]:
+def since(listed: Zone, before: Records, after: Records) -> tuple[Zone, Zone]:
     """Two zones that differ as two files do. The SOA's serial is that of the zone."""
     old, new = zone_of(before), zone_of(after)
     was, wanted = old.set_of(old.origin, "SOA"), new.set_of(old.origin, "SOA")
@@ -165,12 +165,12 @@ def send_parts(session: Session, pending: Pending, updates: list[Update]) -> int
 
 # Commands
 
-def read_files(session: Session, *paths: str) -> tuple[list[File], str]:
+def read_files(session: Session, *paths: str) -> tuple[list[Records], str]:
     """The files, and a digest of what they have."""
     origin = session.needed_zone()
     found, digest = [], hashlib.sha256()
     for path in paths:
-        file = master.read(path, origin)
+        file = reading.read(path, origin)
         found.append(file)
         session.readings += file.readings
         for record, _ in file.lined():

@@ -7,7 +7,10 @@ from typing import Any
 
 from . import helping, options
 from .tables import VERSION
-from .telling import Bad, Lost, Refused, clean, leave_pipe, say
+from .telling import Bad, Lost, Refused, clean, flush, put, say
+
+
+ENDED: dict[type[BaseException], str] = {MemoryError: "memory ran out", KeyboardInterrupt: "interrupted"}
 
 
 def asked(arguments: list[str]) -> int | None:
@@ -18,7 +21,7 @@ def asked(arguments: list[str]) -> int | None:
         return 0
     given, words = options.read(arguments)
     if given.version:
-        print(f"office {VERSION}")
+        put(f"office {VERSION}")
         return 0
     if given.help or words[:1] == ["help"]:
         return print_help(words[1:] if words[:1] == ["help"] else words)
@@ -26,7 +29,7 @@ def asked(arguments: list[str]) -> int | None:
         from . import completing
         if len(words) != 2 or words[1] not in completing.SHELLS:
             raise Bad(f"usage: {helping.usage('completion')}: bash or zsh")
-        print(completing.SHELLS[words[1]], end="")
+        put(completing.SHELLS[words[1]], end="")
         return 0
     return None
 
@@ -36,7 +39,7 @@ def print_help(words: list[str]) -> int:
     names = [word for word in words if word in helping.COMMANDS]
     if words and not names:
         raise Bad(f"{words[0]} is not a command: the commands are {' '.join(helping.COMMANDS)}")
-    print(helping.of_command(names[0]) if names else helping.text())
+    put(helping.of_command(names[0]) if names else helping.text())
     return 0
 
 
@@ -78,10 +81,10 @@ def reported(report: dict[str, Any], work: Callable[[], int]) -> int:
     fields: dict[str, Any] = {}
     try:
         return work()
-    except BrokenPipeError:
-        raise
     except (Bad, Lost, OSError) as error:
         status, text = 2, str(error)
+    except (MemoryError, KeyboardInterrupt) as error:
+        status, text = 2, ENDED[type(error)]
     except Refused as error:
         status, text = 1, str(error)
         fields = {name: clean(value[:200]) if isinstance(value, str) else value for name, value in error.fields.items()
@@ -92,19 +95,25 @@ def reported(report: dict[str, Any], work: Callable[[], int]) -> int:
     return status
 
 
+def failed(arguments: list[str], text: str) -> int:
+    """Says what is wrong with the words of the command line, also as a report where one is asked for."""
+    say(text)
+    if any(word.startswith("--j") and "--json".startswith(word) for word in arguments):
+        from .update import compact
+        command = next((word for word in arguments if word in helping.COMMANDS), "")
+        put(compact({"command": command, "error": {"text": text}, "status": 2}))
+        flush()
+    return 2
+
+
 def main() -> int:
     """Runs the client on the words of the command line."""
+    arguments = sys.argv[1:]
     try:
-        status = run(sys.argv[1:])
-        sys.stdout.flush()
+        status = run(arguments)
+        flush()
         return status
-    except BrokenPipeError:
-        leave_pipe()
-        return 0
     except (Bad, Lost, OSError) as problem:
-        say(problem)
-    except MemoryError:
-        say("memory ran out")
-    except KeyboardInterrupt:
-        pass
-    return 2
+        return failed(arguments, str(problem))
+    except (MemoryError, KeyboardInterrupt) as problem:
+        return failed(arguments, ENDED[type(problem)])

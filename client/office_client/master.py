@@ -9,7 +9,6 @@ from .data import Item, Record
 from .names import Reading
 from .telling import Bad
 
-LARGEST = 64 << 20  # octets of a file
 TOKEN = re.compile(r'[ \t\r]+|;[^\n]*|(\n)|([()])|"((?:[^"\\]|\\.)*)"|((?:[^ \t\r\n;()"\\]|\\.)+)', re.S)
 
 
@@ -48,17 +47,55 @@ def entries(text: str) -> Iterator[Entry]:
         yield Entry(items, first, indented)
 
 
-class File:  # pylint: disable=too-many-instance-attributes
-    """The records of a master file of a zone, and the line of each; and the names that were perhaps meant otherwise."""
+class Records:
+    """The records of a zone that a text has, and the line of each; and the names that were perhaps meant otherwise."""
 
-    def __init__(self, origin: str, text: str) -> None:
-        self.zone = self.origin = origin
+    def __init__(self, origin: str) -> None:
+        self.zone = origin
         self.records: dict[tuple[str, str, str], tuple[Record, int]] = {}
         self.readings: list[tuple[Reading, str]] = []
-        self.ttl: int | None = None
-        self.last_ttl: int | None = None
         self.owner: str | None = None
         self.line = 0
+
+    def put(self, record: Record) -> None:
+        """Keeps a record. Of several that differ in nothing but the TTL the last one counts."""
+        if not names.is_within(record.name, self.zone) or record.kind == "DS" and record.name == self.zone:
+            raise Bad(f"{record.name} {record.kind} is not within the zone {self.zone}")
+        if record.kind == "SOA" and record.name != self.zone:
+            raise Bad(f"{record.name} SOA is not at the origin {self.zone}")
+        self.records[record.name, record.kind, record.data] = record, self.line
+
+    def lined(self) -> list[tuple[Record, int]]:
+        """The records, each with the least TTL of its set, and the line of each."""
+        least: dict[tuple[str, str], int] = {}
+        kinds: dict[str, set[str]] = {}
+        for record, line in self.records.values():
+            key = record.name, record.kind
+            least[key] = min(record.ttl, least.get(key, record.ttl))
+            kinds.setdefault(record.name, set()).add(record.kind)
+            if "CNAME" in kinds[record.name] and len(kinds[record.name]) > 1:
+                raise Bad(f"line {line}: {record.name} has a CNAME and other records")
+        for (name, kind), count in self.counts().items():
+            if kind in ("CNAME", "SOA") and count > 1:
+                raise Bad(f"{name} has {count} records of type {kind}, and one is allowed")
+        return [(record._replace(ttl=least[record.name, record.kind]), line) for record, line in self.records.values()]
+
+    def counts(self) -> dict[tuple[str, str], int]:
+        """How many records each set has."""
+        found: dict[tuple[str, str], int] = {}
+        for name, kind, _ in self.records:
+            found[name, kind] = found.get((name, kind), 0) + 1
+        return found
+
+
+class File(Records):
+    """The records of a master file."""
+
+    def __init__(self, origin: str, text: str) -> None:
+        super().__init__(origin)
+        self.origin = origin
+        self.ttl: int | None = None
+        self.last_ttl: int | None = None
         for entry in entries(text):
             self.line = entry.line
             try:
@@ -134,43 +171,3 @@ class File:  # pylint: disable=too-many-instance-attributes
         if found is None:
             raise Bad("the record has no TTL, and none is in force: write one, or $TTL")
         return found
-
-    def put(self, record: Record) -> None:
-        """Keeps a record. Of several that differ in nothing but the TTL the last one counts."""
-        if not names.is_within(record.name, self.zone) or record.kind == "DS" and record.name == self.zone:
-            raise Bad(f"{record.name} {record.kind} is not within the zone {self.zone}")
-        self.records[record.name, record.kind, record.data] = record, self.line
-
-    def lined(self) -> list[tuple[Record, int]]:
-        """The records, each with the least TTL of its set, and the line of each."""
-        least: dict[tuple[str, str], int] = {}
-        kinds: dict[str, set[str]] = {}
-        for record, line in self.records.values():
-            key = record.name, record.kind
-            least[key] = min(record.ttl, least.get(key, record.ttl))
-            kinds.setdefault(record.name, set()).add(record.kind)
-            if "CNAME" in kinds[record.name] and len(kinds[record.name]) > 1:
-                raise Bad(f"line {line}: {record.name} has a CNAME and other records")
-        for (name, kind), count in self.counts().items():
-            if kind in ("CNAME", "SOA") and count > 1:
-                raise Bad(f"{name} has {count} records of type {kind}, and one is allowed")
-        return [(record._replace(ttl=least[record.name, record.kind]), line) for record, line in self.records.values()]
-
-    def counts(self) -> dict[tuple[str, str], int]:
-        """How many records each set has."""
-        found: dict[tuple[str, str], int] = {}
-        for name, kind, _ in self.records:
-            found[name, kind] = found.get((name, kind), 0) + 1
-        return found
-
-
-def read(path: str, origin: str) -> File:
-    """Reads a file, or standard input for `-`."""
-    with open(0 if path == "-" else path, "rb") as file:
-        octets = file.read(LARGEST + 1)
-    if len(octets) > LARGEST:
-        raise Bad(f"{path} has more than {LARGEST} octets")
-    try:
-        return File(origin, octets.decode("latin-1"))
-    except Bad as error:
-        raise Bad(f"{path}: {error}; nothing was sent") from None

@@ -11,7 +11,7 @@ from .pending import NotKept, Pending
 from .server import Reply, checked
 from .session import Session
 from .telling import Bad, Lost, Refused, clean, say
-from .update import Part, Request, Update, compact, divided, excess, points
+from .update import Delegation, Part, Request, Update, compact, divided, excess, points, refuse_mistakes
 
 
 class Send(NamedTuple):
@@ -112,8 +112,6 @@ def hint(session: Session, told: dict[str, Any], part: Part, update: Update) -> 
         say(f"  {refusals.lack_line(lack)}")
     if part.word == "delete-name" and any(lack["action"] == "delegate" for lack in told["lacks"]):
         say("  to delete all types asks for delegate too: name the types, as in office delete NAME TYPE")
-    if told.get("name") == "NOTZONE" and update.zone:
-        say(f"  a name with a dot in it is absolute: if {part.name}{update.zone} is meant, write it whole")
 
 
 # One command
@@ -134,8 +132,10 @@ def prepare(session: Session, actions: list[Action]) -> list[Action]:
         if update.zone is None:
             update.zone = session.server.zone_of(update.first_name())
         session.zone = session.zone or update.zone
+        if not isinstance(update, Delegation):
+            refuse_mistakes(update)
         much = excess(update)
-        if much and not (session.options.split and type(update) is Update):  # pylint: disable=unidiomatic-typecheck
+        if much and (isinstance(update, Delegation) or not session.options.split):
             raise Bad(f"the update has {much}; --split sends several, and others see the zone between them. Nothing was sent")
         prepared += [Send(part) for part in divided(update)] if much else [action]
     return prepared

@@ -9,7 +9,7 @@ from . import data, names
 from .names import Reading
 from .options import Options
 from .server import Server
-from .telling import Bad, clean, harmless, say
+from .telling import Bad, clean, flush, harmless, put, say
 from .update import compact
 
 
@@ -49,19 +49,19 @@ class Session:
     def print(self, line: str) -> None:
         """A line of output, for people and pipes; where JSON is asked for there is none."""
         if not self.options.json:
-            print(clean(line))
+            put(clean(line))
 
     def finish(self, status: int) -> int:
         """Prints the report, where it is asked for, and gives the status."""
         if self.options.json:
             zone = {"zone": self.zone} if self.zone and "zone" not in self.report else {}
-            print(compact({**self.report, **zone, "status": status}))
-        sys.stdout.flush()
+            put(compact({**self.report, **zone, "status": status}))
+        flush()
         return status
 
     def progress(self, text: str) -> None:
         """Says how far a long command is, to who watches it."""
-        if self.options.verbose or sys.stderr.isatty():
+        if self.options.verbose or sys.stderr is not None and sys.stderr.isatty():
             say(text)
 
     # Names
@@ -122,7 +122,7 @@ def both(name: str) -> str:
 def with_letters(line: str) -> str:
     """A line of a server, with the letters of its names behind it where the output is a terminal that has them."""
     text = clean(line)
-    if not sys.stdout.isatty() or "xn--" not in line:
+    if sys.stdout is None or not sys.stdout.isatty() or "xn--" not in line:
         return text
     found = [letters for name in re.findall(r"(?<!\S)\S*xn--\S*", line) if (letters := names.u_name(name))]
     try:

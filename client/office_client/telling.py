@@ -41,6 +41,8 @@ def harmless(text: object) -> str:
 def say(text: object) -> None:
     """A line on standard error. What cannot be written there is left out."""
     line = f"office: {harmless(text)}\n"
+    if sys.stderr is None:
+        return
     try:
         sys.stderr.write(line)
     except UnicodeEncodeError:
@@ -49,12 +51,25 @@ def say(text: object) -> None:
         pass
 
 
+def put(text: str, end: str = "\n") -> None:
+    """A line of output. Where its reader went away the rest of it goes nowhere, and the work goes on."""
+    try:
+        print(text, end=end)
+    except BrokenPipeError:
+        leave_pipe()
+
+
+def flush() -> None:
+    """Hands on what was put."""
+    try:
+        if sys.stdout is not None:
+            sys.stdout.flush()
+    except BrokenPipeError:
+        leave_pipe()
+
+
 def leave_pipe() -> None:
-    """Ends the output to a reader that went away: nothing is written when the program ends."""
+    """Lets the output go nowhere, as its reader went away."""
     nothing = os.open(os.devnull, os.O_WRONLY)
-    for stream in 1, 2:
-        try:
-            os.dup2(nothing, stream)
-        except OSError:
-            pass
+    os.dup2(nothing, sys.stdout.fileno())
     os.close(nothing)

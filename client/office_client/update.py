@@ -146,6 +146,21 @@ def points_of(update: Update) -> list[Point]:
     return list(dict.fromkeys(found))
 
 
+# Mistakes
+
+def refuse_mistakes(update: Update) -> None:
+    """Refuses what the office would refuse of the items by themselves: a name that is not in the zone, and two SOA."""
+    origin = update.origin()
+    for key, parts in (("prerequisites", update.prerequisites), ("operations", update.operations)):
+        for part, source in zip(parts, update.sources[key]):
+            if not names.is_within(part.name, origin):
+                where = f"{source}: " if source else ""
+                meant = "" if part.name == "." else f" (if {part.name}{origin} is meant, write it whole)"
+                raise Bad(f"{where}{part.name} is not within the zone {origin}{meant}; nothing was sent")
+    if sum(part.word == "add" and part.kind == "SOA" for part in update.operations) > 1:
+        raise Bad("two operations add an SOA; nothing was sent")
+
+
 # Limits
 
 def octets(part: Part, key: str) -> int:
@@ -214,8 +229,6 @@ def divided(update: Update) -> list[Update]:
     """An update that is too large as several, in order: its prerequisites are in the first."""
     if len(update.prerequisites) > PREREQUISITES_MAX:
         raise Bad(f"{excess(update)}: prerequisites are not divided")
-    if sum(part.word == "add" and part.kind == "SOA" for part in update.operations) > 1:
-        raise Bad("two operations add an SOA")
     parts = parts_of(update.origin(), [Group(update.prerequisites), *(Group([], [part]) for part in update.operations)])
     place = 0
     for part in parts:

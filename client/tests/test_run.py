@@ -13,7 +13,7 @@ sys.path.insert(0, str(pathlib.Path(__file__).parents[1]))
 from office_client import completing, helping, options, script  # noqa: E402 pylint: disable=wrong-import-position
 from office_client.main import command_of  # noqa: E402 pylint: disable=wrong-import-position
 from office_client.pending import read_kept  # noqa: E402 pylint: disable=wrong-import-position
-from office_client.sending import Send, sends  # noqa: E402 pylint: disable=wrong-import-position
+from office_client.sending import Send, prepare, sends  # noqa: E402 pylint: disable=wrong-import-position
 from office_client.session import Session  # noqa: E402 pylint: disable=wrong-import-position
 from office_client.telling import Bad, clean, harmless  # noqa: E402 pylint: disable=wrong-import-position
 
@@ -73,6 +73,16 @@ class Scripts(unittest.TestCase):
                            ("add a.example.org A 192.0.2.1", "line 2: the TTL"), ("nxrrset a", "line 2: nxrrset wants"), ("class CH", "line 2: class CH")):
             with self.assertRaises(Bad) as caught:
                 script.read_script(session(), ["add x.example.org 5 A 192.0.2.1\n", line, "send\n"])
+            self.assertTrue(str(caught.exception).startswith(said) and str(caught.exception).endswith("; nothing was sent"), str(caught.exception))
+
+    def test_names_outside_the_zone(self) -> None:
+        """They are refused before anything is sent, with the line; so are two SOA."""
+        soa = "add example.org 5 SOA a. b. 1 2 3 4 5\n"
+        for lines, said in (["prereq nxdomain a.example.net\n", "add a.example.org 5 A 192.0.2.1\n"], "line 2: prereq nxdomain a.example.net: a.example.net. is not within"), \
+                (["add a.example.org 5 A 192.0.2.1\n", "del b.sub\n"], "line 3: del b.sub: b.sub. is not within"), ([soa, soa], "two operations add an SOA"):
+            actions = script.read_script(session(), ["add x.example.org 5 A 192.0.2.1\n", *lines, "send\n"])
+            with self.assertRaises(Bad) as caught:
+                prepare(session(), actions)
             self.assertTrue(str(caught.exception).startswith(said) and str(caught.exception).endswith("; nothing was sent"), str(caught.exception))
 
     def test_a_name_that_could_mean_two(self) -> None:

@@ -10,6 +10,7 @@ sys.path.insert(0, str(pathlib.Path(__file__).parents[1]))
 from office_client import checking, data, importing, rules, update, zone  # noqa: E402 pylint: disable=wrong-import-position
 from office_client.master import File  # noqa: E402 pylint: disable=wrong-import-position
 from office_client.planning import holds  # noqa: E402 pylint: disable=wrong-import-position
+from office_client.reading import Table  # noqa: E402 pylint: disable=wrong-import-position
 from office_client.telling import Bad  # noqa: E402 pylint: disable=wrong-import-position
 from office_client.update import Group, Part, Update  # noqa: E402 pylint: disable=wrong-import-position
 from office_client.zone import Zone  # noqa: E402 pylint: disable=wrong-import-position
@@ -142,7 +143,7 @@ class Files(unittest.TestCase):
         for text, line in (("a 5 A 192.0.2.1\nb 5 A 1\n", "line 2: A, address"), ("a A 192.0.2.1\n", "line 1: the record has no TTL"), (" 5 A 192.0.2.1\n", "line 1: no record"),
                            ("$INCLUDE x\n", "line 1: '$INCLUDE'"), ("a 5 A ( 192.0.2.1\n", "line 1: a parenthesis is not"), ("a 5 A )\n", "line 1: a parenthesis is closed"),
                            ("\na 5 TXT \"x\n", "line 2: a quote"), ("a 5 CH A 1.2.3.4\n", "line 1: class CH"), ("a 5 CAA 0\n", "line 1: 'CAA'"),
-                           ("a.example.net. 5 A 192.0.2.1\n", "line 1: a.example.net. A is not within"), ("a 5 A 1.2.3.4\na 5 CNAME b\n", "line 2: a.example.org. has a CNAME")):
+                           ("a.example.net. 5 A 192.0.2.1\n", "line 1: a.example.net. A is not within"), ("x 5 SOA a b 1 2 3 4 5\n", "line 1: x.example.org. SOA is not at"), ("a 5 A 1.2.3.4\na 5 CNAME b\n", "line 2: a.example.org. has a CNAME")):
             with self.assertRaises(Bad, msg=text) as caught:
                 File("example.org.", text).lined()
             self.assertTrue(str(caught.exception).startswith(line), str(caught.exception))
@@ -152,6 +153,29 @@ class Files(unittest.TestCase):
         file = File("example.org.", "\nwww.example.org 5 A 192.0.2.1\nmail 5 MX 1 mail\n")
         self.assertEqual([(one.name, one.other, where) for one, where in file.readings],
                          [("www.example.org.example.org.", "www.example.org.", "line 2: ")])
+
+
+class Tables(unittest.TestCase):
+    """Tables of records."""
+
+    def test_rows(self) -> None:
+        """Name and address, or name, type and data; headings, separators, quotes, names without a row of their own."""
+        for text, wanted in (("Name,Address\npc1,192.0.2.1\r\n,2001:db8::1,5m\n", ["pc1.example.org. 3600 IN A 192.0.2.1", "pc1.example.org. 300 IN AAAA 2001:db8::1"]),
+                             ('# hosts\nx;TXT;"a,b ""c"" d";60\n\nmail;mx;10 www.example.com\n',
+                              ['x.example.org. 60 IN TXT "a,b \\"c\\" d"', "mail.example.org. 3600 IN MX 10 www.example.com."]),
+                             ("b\u00fccher\t192.0.2.1\n@\tTXT\t\"\"\"a\"\" \"\"\u0105\"\"\"\n",
+                              ["xn--bcher-kva.example.org. 3600 IN A 192.0.2.1", 'example.org. 3600 IN TXT "a" "\\196\\133"']), ("", [])):
+            self.assertEqual([one.line() for one, _ in Table("example.org.", text.encode().decode("latin-1")).lined()], wanted)
+
+    def test_mistakes(self) -> None:
+        """Each with its line; a row of headings is one by its words only."""
+        for text, said in (("pc1,192.0.2.1\npc2,CAA,0\n", "line 2: 'CAA' is neither"), ("pc1,AAA,192.0.2.1\n", "line 1: 'AAA' is neither"),
+                           ("a,192.0.2.999\n", "line 1: A, address"), (",192.0.2.1\n", "line 1: no row"), ("a,192.0.2.1,5m,x\n", "line 1: 'x' is after"),
+                           ("a,A,192.0.2.1,5x\n", "line 1: TTL"), ('a,TXT,"x\ny"\nb,A,1\n', "line 3: A, address"), ('\na,TXT,"x\n', "line 2: unexpected end"),
+                           ("a.example.net,192.0.2.1\n", "line 1: a.example.net. A is not within"), ("a,A,1.2.3.4\nname,address\n", "line 2: 'address'")):
+            with self.assertRaises(Bad, msg=text) as caught:
+                Table("example.org.", text)
+            self.assertTrue(str(caught.exception).startswith(said), str(caught.exception))
 
 
 class Parts(unittest.TestCase):

@@ -1,5 +1,6 @@
 """Which update of the audit trail made which change. The trail does not say it: an update that was repeated, or had nothing to do, has a
-line like others. So a change is given to the last update before it in the trail that asks for all of it."""
+line like others. So a change is given to the last update before it in the trail that asks for all of it. The line of an update may come
+after its change was seen: one that asks for other data of the same record sets is taken in a later run only."""
 
 import contextlib
 import datetime
@@ -132,10 +133,12 @@ class Waiting:
         asked = self.asked[place]
         return asked is not None and asked.explains(change, exactly)
 
-    def last(self, change: Seen, before: int) -> int | None:
-        """The last update, about before a place, that asks for a change: with its data, or else for its record sets."""
+    def last(self, change: Seen, before: int, trailed: float) -> int | None:
+        """The last update, about before a place, that asks for a change: with its data, or else for its record sets, if the change was seen
+        before the trail was read; else the one with its data may come with the next run."""
         near = [place for place in self.near(change) if place < before + SLACK][-MOST:]
-        found = [place for exactly in (True, False) for place in reversed(near) if self.explains(place, change, exactly)][:1]
+        ways = (True, False) if change.since < trailed else (True,)
+        found = [place for exactly in ways for place in reversed(near) if self.explains(place, change, exactly)][:1]
         return found[0] if found else None
 
     def first(self, change: Seen, after: int, last: int) -> int:
@@ -152,8 +155,8 @@ class Waiting:
         return max(could) if len(who) == 1 else None
 
 
-def find(history: History, updates: list[Update], policy: Policy) -> tuple[dict[int, Made], list[Update]]:
-    """Who made the pending changes of a zone, as far as it is found, and the updates that wait further. From the last change on, each
+def find(history: History, updates: list[Update], policy: Policy, trailed: float) -> tuple[dict[int, Made], list[Update]]:
+    """Who made the pending changes of a zone, as far as it is found, and the updates that wait further; the trail was read at this time. From the last change on, each
     gets the last update that asks for it; and then, from the first on, the first one after the update of the change before. Where a
     zone's history is read for the first time, the trail may begin long before, and the last ones stay."""
     known = {(one.made.caller, one.made.id) for one in history.entries if one.made and one.made.id}
@@ -162,7 +165,7 @@ def find(history: History, updates: list[Update], policy: Policy) -> tuple[dict[
     places: dict[int, int] = {}
     before = len(waiting.updates)
     for change in reversed(changes):
-        place = waiting.last(change, before)
+        place = waiting.last(change, before, trailed)
         if place is None:
             place = waiting.last_of_one(change, policy, history.origin)
         if place is not None:

@@ -5,6 +5,7 @@ import dataclasses
 import json
 import os
 import sys
+import time
 from collections.abc import Callable, Iterable
 from typing import Any
 
@@ -43,6 +44,7 @@ class Run:  # pylint: disable=too-many-instance-attributes
 
     def __init__(self, settings: Settings, state: Folder) -> None:
         self.settings, self.state, self.failed, self.away = settings, state, 0, 0
+        self.trailed = time.time()  # when the trail was read, or a little before
         self.policy, self.digest = read_policy(settings.policy, settings.program)
         kept = self.kept()
         self.known: list[str] = kept.get("zones", [])
@@ -134,7 +136,7 @@ class Run:  # pylint: disable=too-many-instance-attributes
         for zone, updates in waiting.items():
             history = self.histories.get(zone)
             if history:
-                found, updates = find(history, updates, self.policy)
+                found, updates = find(history, updates, self.policy, self.trailed)
                 history.attribute(found)
             left.update(map(id, updates))
         self.trail.updates = [one for one in self.trail.updates if id(one) in left]
