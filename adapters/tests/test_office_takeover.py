@@ -229,7 +229,7 @@ class Drift(unittest.TestCase):
         for words, wanted in (("", (0, 1)), ("dhcid-as-txt = true\n", (1, 0))):
             with tempfile.TemporaryDirectory() as folder, mock.patch("dns.query.xfr", return_value=[wire]):
                 path = pathlib.Path(folder, "takeover.toml")
-                path.write_text(f'url = "http://127.0.0.1:8053"\nzones = ["example.org."]\nprimary = "192.0.2.1"\n{words}', encoding="ascii")
+                path.write_text('url = "http://127.0.0.1:8053"\nzones = ["example.org."]\nprimary = "192.0.2.1"\n' + words, encoding="ascii")
                 path.chmod(0o600)
                 parts = drift.Drift(str(path)).primary.zone("example.org.")
                 texts = [one for one in parts.office if one == '_dhcid.p.example.org. 9 IN TXT "dhcid=AAIBY2/A"']
