@@ -15,11 +15,13 @@ import time
 import urllib.parse
 
 import jwt
-from cryptography.hazmat.primitives import serialization
-from cryptography.hazmat.primitives.asymmetric import rsa
+from cryptography.hazmat.primitives import hashes, serialization
+from cryptography.hazmat.primitives.asymmetric import ec, rsa
+from cryptography.hazmat.primitives.asymmetric.utils import decode_dss_signature, encode_dss_signature
 from trying import must, run, wait_for
 
 BASE = "dc=example,dc=org"
+PORTS = {"ldap": 389, "ldaps": 636}
 PEOPLE = {"ada": ["dns-phys"], "grace": ["dns-phys", "staff", "dns-lib"], "kurt": ["staff"], "emmy": []}
 
 SLAPD = """\
@@ -65,6 +67,7 @@ class Directory:
     def __init__(self, folder, rule, password):
         self.folder = folder
         self.process = None
+        self.schemes = list(PORTS)
         os.makedirs(f"{folder}/ldap")
         with open(f"{folder}/slapd.conf", "w") as file:
             file.write(SLAPD.format(folder=folder, base=BASE, rule=rule.strip()))
@@ -82,9 +85,9 @@ class Directory:
         must(f"slapadd -f {folder}/slapd.conf", input="\n".join(entries))
 
     def start(self):
-        self.process = subprocess.Popen(["slapd", "-d", "0", "-f", f"{self.folder}/slapd.conf", "-h", "ldap://127.0.0.1:389/ ldaps://127.0.0.1:636/"],
+        self.process = subprocess.Popen(["slapd", "-d", "0", "-f", f"{self.folder}/slapd.conf", "-h", " ".join(f"{one}://127.0.0.1:{PORTS[one]}/" for one in self.schemes)],
                                         stderr=subprocess.DEVNULL)
-        wait_for(lambda: run("ldapsearch -x -H ldap://127.0.0.1 -s base -b '' namingContexts")[0] in (0, 13, 32))
+        wait_for(lambda: all(run(f"ss -Hltn sport = {PORTS[one]}")[1] for one in self.schemes))
         if not os.path.exists(f"{self.folder}/grouped"):
             open(f"{self.folder}/grouped", "w").close()
             for group in sorted({group for groups in PEOPLE.values() for group in groups}):
@@ -114,17 +117,41 @@ def encoded(octets):
     return base64.urlsafe_b64encode(octets).rstrip(b"=").decode()
 
 
-def number(value):
-    return encoded(value.to_bytes((value.bit_length() + 7) // 8, "big"))
+def decoded(text):
+    return base64.urlsafe_b64decode(text + "==")
+
+
+def number(value, size=None):
+    return encoded(value.to_bytes(size or (value.bit_length() + 7) // 8, "big"))
+
+
+NAMES = {"RS256": "one", "ES256": "curve"}  # of the provider's keys, by what signs with them
+
+
+def new_key(algorithm):
+    if algorithm == "RS256":
+        return rsa.generate_private_key(public_exponent=65537, key_size=2048)
+    return ec.generate_private_key(ec.SECP256R1())
+
+
+def as_jwk(algorithm, key):
+    """The public part of a key, as JSON."""
+    public = key.public_key().public_numbers()
+    if algorithm == "RS256":
+        return {"kty": "RSA", "use": "sig", "alg": "RS256", "kid": NAMES["RS256"], "n": number(public.n), "e": number(public.e)}
+    return {"kty": "EC", "crv": "P-256", "use": "sig", "alg": "ES256", "kid": NAMES["ES256"], "x": number(public.x, 32), "y": number(public.y, 32)}
 
 
 class Provider:
-    """It signs in whoever comes as `claims`, with a token that is wrong in the way that `fault` names."""
+    """It signs in whoever comes as `claims`, by `algorithm`, with a token that is wrong in the way that `fault` names. It has a key for
+    each algorithm at all times."""
 
     def __init__(self, folder):
-        self.key = rsa.generate_private_key(public_exponent=65537, key_size=2048)
-        self.other = rsa.generate_private_key(public_exponent=65537, key_size=2048)
-        self.claims, self.fault, self.codes, self.seen = {}, None, {}, []
+        self.own = {name: new_key(name) for name in NAMES}
+        self.others = {name: new_key(name) for name in NAMES}
+        self.algorithm = "RS256"
+        self.short = None  # at which octet a signature with ES256 has a zero
+        self.claims, self.fault, self.codes, self.seen, self.fetched = {}, None, {}, [], []
         self.folder, self.server = folder, None
 
     def start(self):
@@ -152,8 +179,9 @@ class Provider:
 
     def answer(self, request, target, body):
         path, _, query = target.partition("?")
+        self.fetched.append(path)
         fields = dict(urllib.parse.parse_qsl(query if body is None else body))
-        routes = {"/.well-known/openid-configuration": self.discovery, "/jwks": self.keys, "/authorize": self.authorize, "/token": self.token}
+        routes = {"/.well-known/openid-configuration": self.discovery, "/jwks": self.keys, "/authorize": self.authorize, "/token": self.token, "/stolen": self.stolen}
         status, more = routes[path](fields, request.headers) if path in routes else (404, {})
         request.send_response(status)
         octets = b""
@@ -169,12 +197,15 @@ class Provider:
     def discovery(self, _fields, _headers):
         return 200, {"issuer": ISSUER, "authorization_endpoint": f"{ISSUER}/authorize", "token_endpoint": f"{ISSUER}/token",
                      "jwks_uri": f"{ISSUER}/jwks", "response_types_supported": ["code"], "subject_types_supported": ["public"],
-                     "id_token_signing_alg_values_supported": ["RS256"], "code_challenge_methods_supported": ["S256"],
+                     "id_token_signing_alg_values_supported": list(NAMES), "code_challenge_methods_supported": ["S256"],
                      "token_endpoint_auth_methods_supported": ["client_secret_basic"], "scopes_supported": ["openid", "email"]}
 
     def keys(self, _fields, _headers):
-        public = self.key.public_key().public_numbers()
-        return 200, {"keys": [{"kty": "RSA", "use": "sig", "alg": "RS256", "kid": "one", "n": number(public.n), "e": number(public.e)}]}
+        return 200, {"keys": [as_jwk(name, key) for name, key in self.own.items()]}
+
+    def stolen(self, _fields, _headers):
+        """Keys that are nobody's, at a place that a forged token names."""
+        return 200, {"keys": [as_jwk(name, key) for name, key in self.others.items()]}
 
     def authorize(self, fields, _headers):
         """Whoever comes is signed in. What Apache has to send is demanded."""
@@ -210,19 +241,70 @@ class Provider:
         if self.fault == "old":
             claims.update(iat=now - 7200)
         claims = {name: value for name, value in claims.items() if self.fault != f"no {name}"}
-        key = self.other if self.fault == "wrong key" else self.key
-        token = jwt.encode(claims, key, "RS256", headers={"kid": "two" if self.fault == "unknown key" else "one"})
+        return self.forged(claims) or self.token_by(self.algorithm, claims)
+
+    def token_by(self, algorithm, claims, key=None, **fields):
+        while True:
+            token = jwt.encode(claims, key or self.own[algorithm], algorithm, headers={"kid": NAMES[algorithm], **fields})
+            if self.short is None or decoded(token.split(".")[2])[self.short] == 0:
+                return token
+
+    def forged(self, claims):
+        """A token whose signature or head is wrong, if the fault is one of these."""
+        algorithm, other = self.algorithm, self.others[self.algorithm]
+        another = next(name for name in NAMES if name != algorithm)
+        token = self.token_by(algorithm, claims)
         head, body, sign = token.split(".")
-        if self.fault and self.fault.startswith("alg none"):
-            more = {"kid": '"alg":"RS256"'} if "another" in self.fault else {}
-            return f"{encoded(json.dumps({'alg': 'none', **more}).encode())}.{body}.{sign if 'signature' in self.fault else ''}"
+        if self.fault in HEADS:
+            return f"{encoded(HEADS[self.fault].replace('ALGORITHM', algorithm).encode())}.{body}.{sign if 'signature' in self.fault else ''}"
+        if self.fault in SIGNATURES:
+            return f"{head}.{body}.{encoded(SIGNATURES[self.fault](decoded(sign)))}"
         if self.fault == "changed":
             return f"{head}.{encoded(json.dumps({**claims, 'email': 'grace@example.org'}).encode())}.{sign}"
         if self.fault in ("HS256 with the public key", "HS256 with the secret"):
-            public = self.key.public_key().public_bytes(serialization.Encoding.PEM, serialization.PublicFormat.SubjectPublicKeyInfo)
-            text = f"{encoded(json.dumps({'alg': 'HS256', 'typ': 'JWT', 'kid': 'one'}).encode())}.{body}"
+            public = self.own[algorithm].public_key().public_bytes(serialization.Encoding.PEM, serialization.PublicFormat.SubjectPublicKeyInfo)
+            text = f"{encoded(json.dumps({'alg': 'HS256', 'typ': 'JWT', 'kid': NAMES[algorithm]}).encode())}.{body}"
             return f"{text}.{encoded(hmac.digest(public if 'public' in self.fault else SECRET.encode(), text.encode(), 'sha256'))}"
-        return token
+        brought = as_jwk(algorithm, other)
+        made = {"wrong key": lambda: self.token_by(algorithm, claims, other),
+                "unknown key": lambda: self.token_by(algorithm, claims, kid="two"),
+                "a key that it brings": lambda: self.token_by(algorithm, claims, other, jwk=brought),
+                "a key at a place that it names": lambda: self.token_by(algorithm, claims, other, jku=f"{ISSUER}/stolen"),
+                "the provider's other key": lambda: self.token_by(another, claims),
+                "the other key under this one's name": lambda: self.token_by(another, claims, kid=NAMES[algorithm]),
+                "a longer digest": lambda: longer(algorithm, claims, self.own[algorithm])}
+        return made[self.fault]() if self.fault in made else None
+
+
+# heads of tokens without a signature of the provider
+HEADS = {"alg none": '{"alg":"none"}', "alg none, and a signature": '{"alg":"none"}',
+         "alg none beside another": '{"alg":"none","kid":"\\"alg\\":\\"ALGORITHM\\""}',
+         "alg none above another": '{"alg":"none","x":{"alg":"ALGORITHM"}}', "alg none, after another": '{"alg":"ALGORITHM","alg":"none"}',
+         "alg none, before another": '{"alg":"none","alg":"ALGORITHM"}', "alg None": '{"alg":"None"}', "alg none by an escape": '{"alg":"n\\u006fne"}',
+         "no alg": '{"typ":"JWT"}'}
+
+ORDER = 0xFFFFFFFF00000000FFFFFFFFFFFFFFFFBCE6FAADA7179E84F3B9CAC2FC632551  # of the group of P-256
+
+
+def as_der(octets):
+    """Both numbers of a signature as X.509 has them, in place of JOSE's 64 octets (RFC 7518 section 3.4)."""
+    return encode_dss_signature(int.from_bytes(octets[:32], "big"), int.from_bytes(octets[32:], "big"))
+
+
+# signatures that are none, made of a right one
+SIGNATURES = {"a signature of zeros": lambda octets: bytes(len(octets)), "half a signature": lambda octets: octets[:len(octets) // 2],
+              "an empty signature": lambda octets: b"", "a longer signature": lambda octets: octets + b"\0",
+              "both numbers the order": lambda octets: ORDER.to_bytes(32, "big") * 2, "a signature in DER": as_der}
+
+
+def longer(algorithm, claims, key):
+    """A token by the same key with SHA-384."""
+    if algorithm == "RS256":
+        return jwt.encode(claims, key, "RS384", headers={"kid": NAMES[algorithm]})
+    head = encoded(json.dumps({"alg": "ES384", "typ": "JWT", "kid": NAMES[algorithm]}).encode())
+    text = f"{head}.{encoded(json.dumps(claims).encode())}"
+    first, second = decode_dss_signature(key.sign(text.encode(), ec.ECDSA(hashes.SHA384())))
+    return f"{text}.{encoded(first.to_bytes(48, 'big') + second.to_bytes(48, 'big'))}"
 
 
 class Browser:

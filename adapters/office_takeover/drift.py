@@ -25,13 +25,14 @@ ADDRESS = re.compile(r"([0-9a-fA-F.:]+)(?:#([0-9]{1,5}))?")
 
 
 class Primary:  # pylint: disable=too-few-public-methods
-    """A name server that gives zones whole."""
+    """A name server that gives zones whole. A DHCID may count as the TXT that the gateway has in its place."""
 
     def __init__(self, settings: Settings) -> None:
         found = ADDRESS.fullmatch(settings.needed("primary"))
         if not found or not 0 < int(found[2] or 53) < 65536:
             raise Wrong(f"{settings.where}: primary is no ADDRESS or ADDRESS#PORT")
         self.address, self.port = found[1], int(found[2] or 53)
+        self.dhcid_as_text = settings.flag("dhcid-as-txt")
         key, secret, algorithm = settings.text("key"), settings.text("secret"), settings.text("algorithm") or "hmac-sha256"
         if (key is None) != (secret is None):
             raise Wrong(f"{settings.where}: a key has a secret")
@@ -51,7 +52,7 @@ class Primary:  # pylint: disable=too-few-public-methods
                         zone.add(rrset.name, rrset.ttl, data)
         except (dns.exception.DNSException, OSError, EOFError, ValueError) as error:
             raise NoTransfer(f"{origin} from {self.address}#{self.port}: {printable(str(error) or type(error).__name__)}") from None
-        return zone.parts()
+        return zone.parts(self.dhcid_as_text)
 
 
 def _ring(key: Key) -> dict[dns.name.Name, dns.tsig.Key]:

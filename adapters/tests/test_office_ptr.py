@@ -4,6 +4,7 @@ import contextlib
 import io
 import ipaddress
 import json
+import pathlib
 import random
 import tempfile
 import unittest
@@ -23,10 +24,26 @@ def records(*short: str) -> list[Any]:
     return [ptr.record_of(f"{one.split(' ', 1)[0]} 300 IN {one.split(' ', 1)[1]}") for one in short]
 
 
+def pointers_of(_: str, origin: str, hosts: dict[str, Any]) -> dict[str, Any]:
+    """What `zoneoffice reverse` prints: of each address within the origin the name with the fewest labels, and the first of these."""
+    found: dict[str, Any] = {}
+    for owner, host in hosts.items():
+        if owner.endswith("." + origin):
+            first = min(map(ptr.record_of, host.lines), key=lambda one: (one.name.count("."), one.name))
+            found[owner] = ptr.record_of(f"{owner} {first.ttl} IN PTR {first.name}")
+    return found
+
+
+def wanted(forward: list[str], origin: str = REVERSE[0]) -> Any:
+    """What short lines call for."""
+    hosts = ptr.hosts_of(records(*forward))
+    return ptr.Wanted(hosts, pointers_of("", origin, hosts))
+
+
 def plans(forward: list[str], reverse: list[str], origin: str = REVERSE[0]) -> list[Any]:
     """The plans of a reverse zone that change or tell something."""
     zone = ptr.reverse_of(origin, records(*reverse))
-    found = ptr.plans_of(zone, ptr.hosts_of(records(*forward)), FORWARD, REVERSE)
+    found = ptr.plans_of(zone, wanted(forward, origin), FORWARD, REVERSE)
     return [plan for plan in found if plan.operations() or plan.words]
 
 
@@ -80,9 +97,9 @@ class Plans(unittest.TestCase):
 
     def test_nested(self) -> None:
         """The nearest of two reverse zones has the PTR."""
-        hosts = ptr.hosts_of(records("a.example.org. A 192.0.2.1"))
         both = ["0.192.in-addr.arpa.", "2.0.192.in-addr.arpa."]
-        found = [len(ptr.plans_of(ptr.reverse_of(origin, []), hosts, FORWARD, both)) for origin in both]
+        found = [len(ptr.plans_of(ptr.reverse_of(origin, []), wanted(["a.example.org. A 192.0.2.1"], origin), FORWARD, both))
+                 for origin in both]
         self.assertEqual(found, [0, 1])
 
     def test_fixed_point(self) -> None:
@@ -111,6 +128,40 @@ class Plans(unittest.TestCase):
         self.assertGreater(len(groups), 4)
 
 
+class Program(unittest.TestCase):
+    """What `zoneoffice reverse` prints, and when it does not."""
+
+    def said(self, script: str, *short: str) -> Any:
+        """The pointers by a program that is a script of the shell."""
+        with tempfile.TemporaryDirectory() as folder:
+            path = pathlib.Path(folder, "zoneoffice")
+            path.write_text(f"#!/bin/sh\n{script}\n", encoding="ascii")
+            path.chmod(0o755)
+            return ptr.pointers_of(str(path), REVERSE[0], ptr.hosts_of(records(*(short or ["a.example.org. A 192.0.2.1"]))))
+
+    def test_program(self) -> None:
+        """It gets the addresses of the zone, and its records are those that are called for, without its comments."""
+        found = self.said('test "$*" = "reverse --origin 2.0.192.in-addr.arpa. -" || exit 1\n'
+                          'test "$(cat)" = "a.example.org. 300 IN A 192.0.2.1\nb.example.org. 300 IN A 192.0.2.1" || exit 1\n'
+                          'echo "1.2.0.192.in-addr.arpa. 300 IN PTR a.example.org."\n'
+                          'echo "; shared a.example.org. 300 IN A 192.0.2.1"',
+                          "a.example.org. A 192.0.2.1", "c.example.org. A 198.51.100.1", "b.example.org. A 192.0.2.1")
+        self.assertEqual([(owner, one.data, one.ttl) for owner, one in found.items()], [("1.2.0.192.in-addr.arpa.", "a.example.org.", 300)])
+
+    def test_fails(self) -> None:
+        """A refusal, and a program that does not end."""
+        with self.assertRaisesRegex(ptr.Wrong, "the input .x1bis long"):
+            self.said("echo refused 30; printf 'the input \\033is long' >&2; exit 1")
+        with self.assertRaisesRegex(ptr.Wrong, "status 3"):
+            self.said("exit 3")
+        with mock.patch.object(ptr, "SECONDS", 0.2), self.assertRaisesRegex(ptr.Wrong, "more than"):
+            self.said("exec sleep 5")
+
+    def test_none(self) -> None:
+        """Without an address in the zone nothing is asked."""
+        self.assertEqual(self.said("exit 1", "c.example.org. A 198.51.100.1"), {})
+
+
 class Pending(unittest.TestCase):
     """The update for which no reply came."""
 
@@ -132,7 +183,7 @@ class Pending(unittest.TestCase):
                 return reply
 
         with tempfile.TemporaryDirectory() as folder:
-            keeper = ptr.Keeper(Asked(), Kept(folder + "/state"), FORWARD, REVERSE)
+            keeper = ptr.Keeper(Asked(), Kept(folder + "/state"), FORWARD, REVERSE, "")
             keeper.kept.write("pending", json.dumps({"zone": "a.", "body": {"operations": []}, "id": "x"}).encode())
             for _ in range(2):
                 self.assertRaises(NoReply, keeper.finish_earlier)
@@ -172,8 +223,9 @@ class Reads(unittest.TestCase):
 
     def run_over(self, office: Zones) -> Any:
         """A keeper after a run of it over one reverse zone."""
-        with tempfile.TemporaryDirectory() as folder, contextlib.redirect_stdout(io.StringIO()) as printed:
-            keeper = ptr.Keeper(office, Kept(folder + "/state"), FORWARD, REVERSE[:1])
+        with tempfile.TemporaryDirectory() as folder, contextlib.redirect_stdout(io.StringIO()) as printed, \
+                mock.patch.object(ptr, "pointers_of", pointers_of):
+            keeper = ptr.Keeper(office, Kept(folder + "/state"), FORWARD, REVERSE[:1], "")
             keeper.run(False)
         self.assertTrue(keeper.is_whole)
         self.assertTrue(printed.getvalue().endswith("\n"))

@@ -5,7 +5,9 @@ import pathlib
 import tempfile
 import unittest
 from typing import Any
+from unittest import mock
 
+import dns.message
 import dns.name
 
 from loading import load
@@ -219,6 +221,19 @@ class Drift(unittest.TestCase):
                 path.write_text(f'url = "http://127.0.0.1:8053"\nzones = ["example.org."]\n{words}\n', encoding="ascii")
                 path.chmod(0o600)
                 drift.Drift(str(path))
+
+    def test_dhcid(self) -> None:
+        """A DHCID of the primary counts as a TXT where the settings say so."""
+        wire = dns.message.from_text("id 1\nopcode QUERY\nrcode NOERROR\nflags QR AA\n;QUESTION\nexample.org. IN AXFR\n;ANSWER\n"
+                                     "example.org. 60 IN SOA a. b. 1 1 1 1 1\np.example.org. 9 IN DHCID AAIBY2/A\n")
+        for words, wanted in (("", (0, 1)), ("dhcid-as-txt = true\n", (1, 0))):
+            with tempfile.TemporaryDirectory() as folder, mock.patch("dns.query.xfr", return_value=[wire]):
+                path = pathlib.Path(folder, "takeover.toml")
+                path.write_text('url = "http://127.0.0.1:8053"\nzones = ["example.org."]\nprimary = "192.0.2.1"\n' + words, encoding="ascii")
+                path.chmod(0o600)
+                parts = drift.Drift(str(path)).primary.zone("example.org.")
+                texts = [one for one in parts.office if one == '_dhcid.p.example.org. 9 IN TXT "dhcid=AAIBY2/A"']
+                self.assertEqual((len(texts), len(parts.rest)), wanted)
 
 
 class Words(unittest.TestCase):
