@@ -318,10 +318,9 @@ class Browser:
         self.js("localStorage.clear()")
         self.open()
 
-    @staticmethod
-    def mine(name, value):
-        """Writes a file that the office's machine makes for each user."""
-        path = f"{INSTALLED}/my/{name}.json"
+    def mine(self, name, value):
+        """Writes a file of this user's, as `zoneoffice-page` does."""
+        path = f"/var/lib/zoneoffice-my/caller-{self.user}/{name}.json"
         os.makedirs(os.path.dirname(path), exist_ok=True)
         with open(path, "w", encoding="utf-8") as file:
             json.dump(value, file)
