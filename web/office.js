@@ -46,7 +46,7 @@ export async function request(method, path, body) {
 
 /** A file that the office's machine may make for each user, or null where it does not. */
 export async function mine(name) {
-    const {status, json} = await request("GET", `/page/my/${name}.json`);
+    const {status, json} = await request("GET", `${asCaller()}/page/my/${name}.json`);
     return status === 200 ? json : null;
 }
 

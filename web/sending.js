@@ -205,13 +205,19 @@ function showLeft(job) {
 
 function showWaiting() {
     const jobs = [...state.waiting.values()].filter((job) => job.why !== undefined);
+    const focused = document.activeElement?.closest?.("#waiting-list li");
+    const place = focused ? [...focused.querySelectorAll("button")].indexOf(document.activeElement) : -1;
     $("waiting").hidden = jobs.length === 0;
     $("waiting-list").replaceChildren(...jobs.map((job) => {
         job.shown = make("span", {});
         showLeft(job);
-        return make("li", {}, code(job.id), ` ${t("waitingOf", job.zone, clock(job.since), job.why)} `, job.shown, ". ",
+        return make("li", {"data-id": job.id}, code(job.id), ` ${t("waitingOf", job.zone, clock(job.since), job.why)} `, job.shown, ". ",
             button(t("sendAgainNow"), () => job.now?.(), {class: "main"}), " ", button(t("giveUp"), () => giveUp(job), {class: "give-up"}));
     }));
+    if (focused) {
+        const same = [...$("waiting-list").children].find(({dataset}) => dataset.id === focused.dataset.id);
+        (same?.querySelectorAll("button")[place] ?? $("main")).focus();
+    }
 }
 
 /** Stops waiting for an update, of which nobody knows whether it was made. */
