@@ -22,7 +22,7 @@ except ImportError:
 PICTURES = os.path.abspath(sys.argv[1]) if sys.argv[1:] else ""
 SITE = "https://office.example.org"
 ZONE, REVERSE, BIG, MISSING = "example.org.", "2.0.192.in-addr.arpa.", "big.example.", "missing.example."
-USERS = "phys", "admin", "lib", "med", "adder", "keeper"
+USERS = "phys", "admin", "lib", "med", "adder", "keeper", "guest"
 SECRET = "secret"
 RULES = [
     # id, caller, name, types, actions
@@ -100,9 +100,9 @@ def ask(user, method, path, body=None, **fields):
 numbers = iter(range(1, 10000))
 
 
-def change(*operations, user="admin", zone=ZONE):
+def change(*operations, user="admin", zone=ZONE, ticket="aside"):
     status, _, said = ask(
-        user, "POST", f"/zones/{zone}/updates", json.dumps({"id": f"aside-{next(numbers)}", "operations": operations})
+        user, "POST", f"/zones/{zone}/updates", json.dumps({"id": f"{ticket}-{next(numbers)}", "operations": operations})
     )
     if status != 200:
         raise RuntimeError(f"{operations}: {status} {said}")
@@ -139,7 +139,7 @@ def sent():
 
 
 class Browser:
-    def __init__(self, folder, user="phys", width=1000, dark=False, language="en", site="", ready="read at"):
+    def __init__(self, folder, user="phys", width=1000, dark=False, language="en", site="", ready="read at", where="127.0.0.1"):
         options = webdriver.ChromeOptions()
         options.binary_location = "/usr/bin/chromium"
         for word in (
@@ -154,7 +154,7 @@ class Browser:
             f"lang={language}",
             f"accept-lang={language}",
             f"user-data-dir={folder}/browser-{user}-{next(numbers)}",
-            "host-resolver-rules=MAP office.example.org 127.0.0.1,MAP other.example.net 127.0.0.1",
+            f"host-resolver-rules=MAP office.example.org {where},MAP other.example.net 127.0.0.1",
             "window-size=1000,800",
         ):
             options.add_argument(f"--{word}")
@@ -349,6 +349,12 @@ class Browser:
         self.write("edit-data", data)
         self.press("#edit .main")
 
+    def begin(self, task):
+        """Begins a task of the menu."""
+        self.press("#more summary")
+        self.press(f"#more [data-task={task}]")
+        self.wait("document.getElementById('task').open", task)
+
     def finish_task(self):
         """Puts what a task comes to into the changes; it may ask a reverse zone before."""
         self.press("#task .main")
@@ -360,6 +366,15 @@ class Browser:
         self.press(f"[aria-label^='Change {what}']")
         self.write("edit-data", data)
         self.press("#edit .main")
+
+    def pictures(self, name):
+        """What is in sight, at three widths."""
+        for width in (1280, 390, 320) if PICTURES else ():
+            self.size(width, 800 if width > 500 else 700)
+            self.js("(document.querySelector('dialog[open]') ?? document.documentElement).scrollTo(0, 0)")
+            time.sleep(0.3)
+            self.picture(f"{name}-{width}")
+        self.size()
 
     def picture(self, name):
         if not PICTURES:
