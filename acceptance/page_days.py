@@ -200,7 +200,7 @@ def many_at_once(phys, named):
     phys.wait("document.querySelectorAll('#plan > li').length === 70", "the plan")
     phys.settled()
     expect("day 13, 70 records of a table: sent as several updates", phys.text("review-what"),
-           "This is too much for one update. It is sent as 2 updates, one after the other; each is made whole, or not at all.")
+           "This is too much for one update. It is sent as 2 updates, one after the other; of each all is saved, or nothing.")
     result = phys.send("#review-send", 600)
     live = [named.dig(f"many{n}.physics.{ZONE}") for n in (1, 64, 70)]
     expect("all are live", (result, live, sum(row.startswith("many") for row in listed("phys"))), ("made", [["192.0.2.1"], ["192.0.2.64"], ["192.0.2.70"]], 70))
