@@ -5,6 +5,7 @@ Knot and NSD.
 """
 
 import os
+import time
 
 from selenium.common.exceptions import WebDriverException
 
@@ -356,12 +357,23 @@ def is_it_live(phys, named):
     expect("undone, it is live", (phys.send(), named.take(), "Live: serial " in live_of(phys, named)), ("made", [], True))
 
 
+def delete_deep(phys, name):
+    """Deletes an address that is far down in the list, where rows are there only once they are near."""
+    found = f"[aria-label^='Delete {name} A']"
+    for place in range(0, 20000, 700):
+        if phys.js("return document.querySelector(arguments[0]) !== null", found):
+            break
+        phys.js("scrollTo(0, arguments[0])", place)
+        time.sleep(0.2)
+    phys.press(found)
+
+
 @day
 def a_deep_row(phys, named):
     """Far down in a long list the way to Send is short, and 30 changes do not push the list away."""
     names = [f"many{n}.physics.{ZONE}" for n in range(31, 61)]
     phys.view("records")
-    phys.press(f"[aria-label^='Delete {names[0]} A']")
+    delete_deep(phys, names[0])
     phys.wait("document.getElementById('bar-count').textContent === '1 change'", "the bar")
     seen = phys.js("const box = document.getElementById('draft-send').getBoundingClientRect(); return [scrollY > 500, box.top > 0 && box.bottom <= innerHeight]")
     for count in range(1, 13):
@@ -371,7 +383,7 @@ def a_deep_row(phys, named):
     expect("day 22, a row deep in the list: Send is in sight, and a few keys away", (seen, count <= 8), ([True, True], True))
     place = phys.js("return document.getElementById('table').getBoundingClientRect().top + scrollY")
     for name in names[1:]:
-        phys.press(f"[aria-label^='Delete {name} A']")
+        delete_deep(phys, name)
     phys.wait("document.getElementById('bar-count').textContent === '30 changes'", "30 changes")
     heights = []
     for width in 1000, 390:
