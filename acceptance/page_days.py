@@ -222,6 +222,17 @@ def one_of_many(phys, named):
     found = named.dig(name)
     expect("it is gone, and the others are there", (result, len(found), "192.0.2.42" in found), ("made", 29, False))
     phys.view("records")
+    phys.filter(f'"{name}" 192.0.2.44')
+    phys.change(f"{name} A 192.0.2.44", "192.0.2.144")
+    change({"op": "delete-record", "name": name, "type": "A", "data": "192.0.2.44"})
+    result = phys.send()
+    head = phys.text("result-head")
+    phys.press("#result-review")
+    phys.press("[data-resolve=theirs]")
+    found = named.dig(name)
+    expect("one that somebody deletes meanwhile is not made another one", (result, head, len(found), "192.0.2.144" in found),
+           ("refused", "Not saved: it was changed meanwhile", 28, False))
+    phys.view("records")
     phys.filter("")
 
 

@@ -77,6 +77,14 @@ function restore({operations, prerequisites}, job) {
     keepDraft(job.zone, {...draft, edits: [...draft.edits, ...edits]}, job.caller);
 }
 
+const reviewButton = () => button(t("reviewButton"), () => (location.hash = "review"), {class: "main", id: "result-review"});
+
+/** A record of a large set was changed meanwhile: nothing was sent. */
+export function showStale() {
+    show("refused", t("notMadeMeanwhile"), [make("p", {}, t("conflictWhat"))], [reviewButton()]);
+    say(t("notMadeMeanwhile"));
+}
+
 export async function showRefused(job, reply, made) {
     const body = JSON.parse(job.body);
     const {list, item, by} = reply.json;
@@ -93,7 +101,7 @@ export async function showRefused(job, reply, made) {
     const part = made.length ? [make("p", {}, t("partsMade", made.length, job.count))] : [];
     show("refused", t(isConflict ? "notMadeMeanwhile" : "notMade"),
         [...part, ...(isConflict ? [make("p", {}, t("conflictWhat"))] : [...(name ? [name] : []), ...words])],
-        [button(t("reviewButton"), () => (location.hash = "review"), {class: "main", id: "result-review"})]);
+        [reviewButton()]);
     say(`${t("notMade")}: ${lacks.length ? lacks.map(deniedText).join("; ") : inWords(reply)}`);
 }
 

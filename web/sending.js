@@ -5,7 +5,7 @@ import {$, button, code, make, say} from "./elements.js";
 import {draftOf, keepDraft, mark, takeOutMade, unmark} from "./draft.js";
 import {updates} from "./judge.js";
 import {asCaller, forgetRights, inWords, part, request} from "./office.js";
-import {showGivenUp, showMade, showRefused} from "./result.js";
+import {showGivenUp, showMade, showRefused, showStale} from "./result.js";
 import {announce, state, store, stored} from "./state.js";
 import {clock, t} from "./text.js";
 import {readRecords} from "./reading.js";
@@ -40,7 +40,7 @@ function jobOf({edits, prerequisites, operations}, zone, place, count) {
 /** Whether a record of a large set is no longer as it was seen: such a set is guarded by its being there, so its records are compared
  * just before they are sent. */
 async function isStale({lines}) {
-    const isLarge = ({edit, isBlocked}) => !isBlocked && setsOf(edit).some(({name, type}) => state.zone.set(name, type).length > LARGE);
+    const isLarge = ({edit, isBlocked}) => !isBlocked && !edit.sent && setsOf(edit).some(({name, type}) => state.zone.set(name, type).length > LARGE);
     const olds = lines.filter(isLarge).flatMap(({edit: {old, drop = []}}) => [old, ...drop]).filter(Boolean);
     for (const name of new Set(olds.map((record) => record.name))) {
         const {json} = await request("GET", `${asCaller()}/zones/${part(state.zone.origin)}/records/${part(name)}`);
@@ -52,8 +52,24 @@ async function isStale({lines}) {
     return false;
 }
 
-/** Sends what can be sent of the draft, in as many updates as it takes, and after them what is to follow in other zones. */
+let isChecking = false;
+
+/** Sends what can be sent of the draft, unless a record of a large set is another one by now. */
 export async function send(judged) {
+    if (isChecking) {
+        return; // it was pressed twice
+    }
+    isChecking = true;
+    const isOld = await isStale(judged).finally(() => (isChecking = false));
+    if (!isOld) {
+        await sendAll(judged);
+    } else if (await readRecords()) {
+        showStale();
+    }
+}
+
+/** In as many updates as it takes, and after them what is to follow in other zones. */
+async function sendAll(judged) {
     const origin = state.zone.origin;
     const jobs = updates(judged).map((update, at, all) => jobOf(update, origin, at + 1, all.length));
     $("result").hidden = true;
