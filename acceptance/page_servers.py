@@ -89,8 +89,8 @@ class NameServers:
         self.refusing = ["none yet"]
         self.child = None
         self.set_up_files()
-        for _ in range(2):  # at first a server has no file of the zone
-            self.publish()
+        if not wait_for(lambda: not self.publish(), 300):  # at first a server has no file of the zone
+            raise TimeoutError(f"publish does not take the zones: {self.publish()}")
         self.write()
 
     @staticmethod

@@ -214,6 +214,7 @@ export default {
 
     // is it live
     isLive: "Veröffentlicht: Seriennummer {0}, {1}.",
+    isNew: "Wartet: Seriennummer {0} ist unterwegs zu den Nameservern, die die Zone noch nicht haben ({1}).",
     isWaiting: "Wartet: Seriennummer {0} ist unterwegs zu den Nameservern, die {1} haben ({2}).",
     isHeld: "Nicht veröffentlicht: Die Nameserver lehnen „{0}“ ab ({1}). Niemandes Änderungen gelten, bis das rückgängig gemacht ist.",
     isHeldByOthers: "Aufgehalten durch einen Eintrag von anderen ({0}). Ihre Änderungen sind aufgehoben und gelten, sobald er rückgängig gemacht ist.",

@@ -212,6 +212,7 @@ export default {
 
     // is it live
     isLive: "Live: serial {0}, {1}.",
+    isNew: "Waiting: serial {0} is on its way to the name servers, which do not have the zone yet ({1}).",
     isWaiting: "Waiting: serial {0} is on its way to the name servers, which have {1} ({2}).",
     isHeld: "Not published: the name servers refuse “{0}” ({1}). Nobody's changes go live until this is undone.",
     isHeldByOthers: "Held up by a record of another ({0}). Your changes are kept, and go live once that is undone.",
