@@ -161,14 +161,15 @@ async function deliver(job) {
     return undefined;
 }
 
+/** A reply came. The changes are put right before the update is forgotten: other windows take both in this order. */
 function end(job, reply) {
     state.waiting.delete(job.id);
-    localStorage.removeItem(jobKey(job));
     if (reply.status === 200) {
         takeOutMade(job.zone, job.keys ?? [], job.caller);
     } else {
         unmark(job.zone, job.id, job.caller);
     }
+    localStorage.removeItem(jobKey(job));
     showWaiting();
     announce("waiting");
 }
