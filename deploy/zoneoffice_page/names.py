@@ -62,6 +62,7 @@ def record_of(line: str) -> Record:
 
 def mailbox(soa: str) -> str:
     """The address of who answers for a zone, by the data of its SOA (RFC 1035 section 3.3.13); nothing if it is an odd one."""
-    first, *others = reversed(labels(soa.split(" ")[1])) if " " in soa else [b""]
-    address = f"{first.decode('latin-1')}@{b'.'.join(others).decode('latin-1')}"
+    words = soa.split(" ")
+    parts = [label.decode("latin-1") for label in reversed(labels(words[1]))] if len(words) > 1 else []
+    address = f"{parts[0]}@{'.'.join(parts[1:])}" if parts else ""
     return address if ADDRESS.fullmatch(address) else ""
