@@ -24,7 +24,7 @@ function mailbox() {
     const [soa] = state.zone.set(origin, "SOA");
     const name = soa?.data.split(" ")[1];
     const written = name?.slice(0, -1).replace(/((?:[^.\\]|\\.)+)\./s, (_, local) => `${local.replace(/\\(.)/g, "$1")}@`);
-    return written ?? state.contacts[origin] ?? (isReverse(origin) ? "" : `hostmaster@${origin.slice(0, -1)}`);
+    return (/^[\w.+-]+@[a-z0-9.-]+$/i.test(written) ? written : state.contacts[origin]) ?? (isReverse(origin) ? "" : `hostmaster@${origin.slice(0, -1)}`);
 }
 
 /** A mail to those who write the policy, ready to be sent: about what they deny, or about all where nothing may be listed. */
