@@ -22,7 +22,7 @@ controls {{ inet 127.0.0.1 port 9531 allow {{ 127.0.0.1; }} keys {{ "rndc-key"; 
 """
 KNOT = """server:
   rundir: {place}
-  user: root
+  user: knot
   listen: 127.0.0.1@{port}
 control:
   listen: {place}/knot.sock
@@ -44,7 +44,7 @@ remote-control:
 """
 # the configuration, how a zone stands in it, the command that runs the server, the words for its control, and the socket of that
 SERVERS = {
-    "bind": (5301, BIND, 'zone "{zone}" {{ type primary; file "{file}"; }};\n', "named -f -u root -n 1 -c {conf}",
+    "bind": (5301, BIND, 'zone "{zone}" {{ type primary; file "{file}"; }};\n', "named -f -u bind -n 1 -c {conf}",
              "-p 9531 -k /etc/bind/rndc.key", None),
     "knot": (5302, KNOT, "  - domain: {zone}\n    file: {file}\n    zonefile-sync: -1\n    zonefile-load: whole\n    journal-content: none\n",
              "knotd -c {conf}", "-s {place}/knot.sock", "knot.sock"),
@@ -59,13 +59,16 @@ class Server:
         self.kind, (self.port, head, zone, command, control, socket) = kind, SERVERS[kind]
         self.folder = f"/var/lib/{kind}/office"
         place, conf = f"{PLACE}/{kind}", f"{PLACE}/{kind}/{kind}.conf"
-        must(f"install -d -m 755 {place} && install -d -m 755 -o publisher -g {kind} {self.folder}")
+        must(f"install -d -m 755 -o {kind} {place} && install -d -m 755 -o publisher -g {kind} {self.folder}")
         with open(conf, "w", encoding="utf-8") as file:
             file.write(head.format(place=place, port=self.port))
             file.writelines(zone.format(zone=one.rstrip("."), file=f"{self.folder}/{one}zone") for one in ZONES)
         self.control = control.format(place=place, conf=conf)
         self.process = subprocess.Popen(["sh", "-c", f"exec {command.format(conf=conf)}"], stdout=subprocess.DEVNULL, stderr=subprocess.DEVNULL)
-        if socket and wait_for(lambda: os.path.exists(f"{place}/{socket}")):
+        ask = f"dig @127.0.0.1 -p {self.port} +tries=1 +time=1 example.org SOA"  # an answer of any kind
+        if not wait_for(lambda: run(ask)[0] == 0) or self.process.poll() is not None:
+            raise TimeoutError(f"{command.format(conf=conf)}: it does not answer")
+        if socket:
             must(f"chmod 666 {place}/{socket}")
 
     def publish(self):
