@@ -22,7 +22,7 @@ controls {{ inet 127.0.0.1 port 9531 allow {{ 127.0.0.1; }} keys {{ "rndc-key"; 
 """
 KNOT = """server:
   rundir: {place}
-  user: knot
+  user: knot:knot
   listen: 127.0.0.1@{port}
 control:
   listen: {place}/knot.sock
