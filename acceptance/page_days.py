@@ -119,7 +119,7 @@ def in_conflict(phys, name):
 
 @day
 def replace_theirs(phys, named):
-    expect("day 6, somebody changed the address meanwhile: nothing is made", in_conflict(phys, "day6"), ("refused", "Not made: it was changed meanwhile"))
+    expect("day 6, somebody changed the address meanwhile: nothing is made", in_conflict(phys, "day6"), ("refused", "Not saved: it was changed meanwhile"))
     phys.wait("document.querySelector('.conflict dl')", "the choice")
     expect("the plan has mine, theirs, and as it was", phys.js("return [...document.querySelectorAll('.conflict dd')].map((one) => one.textContent)"),
            ["A 192.0.2.31", "A 192.0.2.39 without A 192.0.2.31", "A 192.0.2.32"])
