@@ -77,7 +77,14 @@ function restore({operations, prerequisites}, job) {
     keepDraft(job.zone, {...draft, edits: [...draft.edits, ...edits]}, job.caller);
 }
 
-const reviewButton = () => button(t("reviewButton"), () => (location.hash = "review"), {class: "main", id: "result-review"});
+/** Leads to the plan, which has what the result said of each change. */
+function toReview() {
+    $("result").hidden = true;
+    location.hash = "review";
+    $("review-head").focus();
+}
+
+const reviewButton = () => button(t("reviewButton"), toReview, {class: "main", id: "result-review"});
 
 /** A record of a large set was changed meanwhile: nothing was sent. */
 export function showStale() {
