@@ -367,11 +367,11 @@ class Browser:
         self.write("edit-data", data)
         self.press("#edit .main")
 
-    def pictures(self, name):
-        """What is in sight, at three widths."""
+    def pictures(self, name, place="dialog[open]"):
+        """What is in sight, at three widths; from the place on that a selector says, or the top."""
         for width in (1280, 390, 320) if PICTURES else ():
             self.size(width, 800 if width > 500 else 700)
-            self.js("(document.querySelector('dialog[open]') ?? document.documentElement).scrollTo(0, 0)")
+            self.js("const at = document.querySelector(arguments[0]); at ? (at.scrollTo(0, 0), at.scrollIntoView()) : scrollTo(0, 0)", place)
             time.sleep(0.3)
             self.picture(f"{name}-{width}")
         self.size()

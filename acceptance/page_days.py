@@ -474,7 +474,7 @@ def delegations(browser, named):
     browser.write("server-2-name", "ns2.example.net")
     hint = browser.text("server-2-name-hint")
     browser.write("child-ds", "60485 13 2 2BB183AF5F22588179A53B0A98631FAD1A292118A4D0E3F0B2D9A8F3C4B5A697")
-    browser.pictures("delegate")
+    browser.pictures("delegate", "#delegate")
     browser.press("#delegate .main")
     expect("a server's name without its last dot is that name, and the other reading is offered", hint, f"is ns2.example.net. I mean ns2.example.net.{ZONE}")
     browser.plan()
