@@ -12,7 +12,7 @@ from trying import TOP, must, wait_for
 
 try:
     from selenium import webdriver
-    from selenium.common.exceptions import NoAlertPresentException, WebDriverException
+    from selenium.common.exceptions import NoAlertPresentException, StaleElementReferenceException, WebDriverException
     from selenium.webdriver.chrome.service import Service
     from selenium.webdriver.common.by import By
     from selenium.webdriver.common.keys import Keys
@@ -209,9 +209,14 @@ class Browser:
     def press(self, selector):
         """Presses the first element of a selector that is in sight, or is once it is scrolled to."""
         found = "[...document.querySelectorAll(arguments[0])].find((one) => one.checkVisibility())"
-        self.wait(f"((...arguments) => {found})({json.dumps(selector)})", selector)
-        element = self.js(f"const it = {found}; it.scrollIntoView({{block: 'center'}}); return it", selector)
-        element.click()
+        for tries in range(5):
+            self.wait(f"((...arguments) => {found})({json.dumps(selector)})", selector)
+            try:
+                self.js(f"const it = {found}; it?.scrollIntoView({{block: 'center'}}); return it", selector).click()
+                return
+            except (AttributeError, StaleElementReferenceException):  # it was drawn anew meanwhile
+                if tries == 4:
+                    raise
 
     def write(self, name, text):
         field = self.get(name)
