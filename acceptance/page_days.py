@@ -326,6 +326,7 @@ def who_broke_it(phys, named):
     phys.wait("document.querySelectorAll('#changes-list > li').length === 1", "the ticket")
     phys.write("changes-filter", "")
     phys.press("#changes-list button")
+    phys.ready("take it back")
     expect("put back by one press, guarded", [line[:2] for line in phys.plan()], [["day1.physics", "A 203.0.113.1 → 192.0.2.11 TTL 1 min → 5 min"]])
     expect("it is live again", (broken, phys.send(), named.dig(p("day1"))), (["203.0.113.1"], "made", ["192.0.2.11"]))
 
