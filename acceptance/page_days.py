@@ -102,6 +102,17 @@ def a_name_in_the_zone(phys, named):
     expect("it is live", (phys.send(), named.dig(f"wiki.physics.{ZONE}")), ("made", ["192.0.2.11", f"day1.physics.{ZONE}"]))
 
 
+def delete_deep(phys, name):
+    """Deletes an address that is far down in the list, where rows are there only once they are near."""
+    found = f"[aria-label^='Delete {name} A']"
+    for place in range(0, 20000, 700):
+        if phys.js("return document.querySelector(arguments[0]) !== null", found):
+            break
+        phys.js("scrollTo(0, arguments[0])", place)
+        time.sleep(0.2)
+    phys.press(found)
+
+
 def in_conflict(phys, name):
     """A host with .31, which phys makes .32, while somebody makes it .39."""
     change(add(p(name), "A", "192.0.2.31", 3600))
@@ -365,19 +376,8 @@ def is_it_live(phys, named):
     theirs = live_of(phys, named)
     expect("others learn that a record of another holds it up, and no more", ("Held up by a record of another" in theirs, "your_pc" in theirs), (True, False))
     phys.sign_in("phys")
-    phys.press("[aria-label^='Delete your_pc.physics']")
+    delete_deep(phys, p("your_pc"))
     expect("undone, it is live", (phys.send(), named.take(), "Live: serial " in live_of(phys, named)), ("made", [], True))
-
-
-def delete_deep(phys, name):
-    """Deletes an address that is far down in the list, where rows are there only once they are near."""
-    found = f"[aria-label^='Delete {name} A']"
-    for place in range(0, 20000, 700):
-        if phys.js("return document.querySelector(arguments[0]) !== null", found):
-            break
-        phys.js("scrollTo(0, arguments[0])", place)
-        time.sleep(0.2)
-    phys.press(found)
 
 
 @day
