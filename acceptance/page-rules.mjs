@@ -112,35 +112,36 @@ function askOffice(port, caller, {action, name, type}) {
         get({host: "127.0.0.1", port, path, headers: {"X-Office-Caller": caller}, agent: false}, (reply) => {
             let text = "";
             reply.on("data", (piece) => (text += piece));
-            reply.on("end", () => go(JSON.parse(text).granted));
+            reply.on("end", () => go(JSON.parse(text)));
         }).on("error", fail);
     });
 }
 
-/** Whether the policy grants a point; some are asked by the command too. */
-function isGranted(caller, point) {
+/** What the policy says of a point: {granted, by}. Some are asked by the command too. */
+function rightOf(caller, point) {
     const key = `${caller} ${pointKey(point)}`;
     if (!asked.has(key)) {
-        asked.set(key, askOffice(port, caller, point).then(async (granted) => {
+        asked.set(key, askOffice(port, caller, point).then(async (right) => {
             if (asked.size % 100 === 1) {
                 const said = await run("", "rights", "--policy", policy, "--caller", caller, "--", point.name, point.type, point.action);
-                if (said.startsWith("granted ") !== granted) {
-                    differ("what the office and the command say of a right", {caller, point}, granted, said);
+                if (said.trim() !== `${right.granted ? "granted" : "denied"} ${right.by}`) {
+                    differ("what the office and the command say of a right", {caller, point}, right, said);
                 }
             }
-            return granted;
+            return right;
         }));
     }
     return asked.get(key);
 }
 
-/** The first item that asks for what the policy denies, as the page asks it: point by point. */
+/** The first item that asks for what the policy denies, and the rule that does, as the page asks it: point by point. */
 async function firstDenied(caller, {prerequisites, operations}, origin) {
     for (const [list, items, points] of [["prerequisites", prerequisites, testPoints], ["operations", operations, (item) => pointsOf(item, origin)]]) {
         for (const [at, item] of items.entries()) {
             for (const point of points(item)) {
-                if (!await isGranted(caller, point)) {
-                    return `REFUSED ${list} ${at}`;
+                const {granted, by} = await rightOf(caller, point);
+                if (!granted) {
+                    return `REFUSED ${list} ${at} ${by}`;
                 }
             }
         }
@@ -160,7 +161,7 @@ async function judge(caller, seen, zone, edits) {
     const items = [...update.prerequisites, ...update.operations].map(itemLine).join("\n");
     const said = (await run(`${zoneText(zone.records)}--\n${items}\n`, "plan", "--policy", policy, "--caller", caller)).trim().split("\n");
     const wanted = denial ?? (isConflict ? "CONFLICT" : "NOERROR");
-    const got = said[0].startsWith("REFUSED") ? said[0].split(" ").slice(0, 3).join(" ") : /XRRSET/.test(said[0]) ? "CONFLICT" : said[0];
+    const got = /XRRSET/.test(said[0]) ? "CONFLICT" : said[0];
     tell(wanted.split(" ")[0], update.edits.length);
     tell("edits", update.edits.length);
     if (wanted !== got) {

@@ -12,7 +12,7 @@ from trying import TOP, must, wait_for
 
 try:
     from selenium import webdriver
-    from selenium.common.exceptions import NoAlertPresentException, WebDriverException
+    from selenium.common.exceptions import NoAlertPresentException, StaleElementReferenceException, WebDriverException
     from selenium.webdriver.chrome.service import Service
     from selenium.webdriver.common.by import By
     from selenium.webdriver.common.keys import Keys
@@ -22,7 +22,7 @@ except ImportError:
 PICTURES = os.path.abspath(sys.argv[1]) if sys.argv[1:] else ""
 SITE = "https://office.example.org"
 ZONE, REVERSE, BIG, MISSING = "example.org.", "2.0.192.in-addr.arpa.", "big.example.", "missing.example."
-USERS = "phys", "admin", "lib", "med", "adder", "keeper"
+USERS = "phys", "admin", "lib", "med", "adder", "keeper", "guest"
 SECRET = "secret"
 RULES = [
     # id, caller, name, types, actions
@@ -100,9 +100,9 @@ def ask(user, method, path, body=None, **fields):
 numbers = iter(range(1, 10000))
 
 
-def change(*operations, user="admin", zone=ZONE):
+def change(*operations, user="admin", zone=ZONE, ticket="aside"):
     status, _, said = ask(
-        user, "POST", f"/zones/{zone}/updates", json.dumps({"id": f"aside-{next(numbers)}", "operations": operations})
+        user, "POST", f"/zones/{zone}/updates", json.dumps({"id": f"{ticket}-{next(numbers)}", "operations": operations})
     )
     if status != 200:
         raise RuntimeError(f"{operations}: {status} {said}")
@@ -139,7 +139,7 @@ def sent():
 
 
 class Browser:
-    def __init__(self, folder, user="phys", width=1000, dark=False, language="en", site="", ready="read at"):
+    def __init__(self, folder, user="phys", width=1000, dark=False, language="en", site="", ready="read at", where="127.0.0.1"):
         options = webdriver.ChromeOptions()
         options.binary_location = "/usr/bin/chromium"
         for word in (
@@ -154,7 +154,7 @@ class Browser:
             f"lang={language}",
             f"accept-lang={language}",
             f"user-data-dir={folder}/browser-{user}-{next(numbers)}",
-            "host-resolver-rules=MAP office.example.org 127.0.0.1,MAP other.example.net 127.0.0.1",
+            f"host-resolver-rules=MAP office.example.org {where},MAP other.example.net 127.0.0.1",
             "window-size=1000,800",
         ):
             options.add_argument(f"--{word}")
@@ -209,9 +209,14 @@ class Browser:
     def press(self, selector):
         """Presses the first element of a selector that is in sight, or is once it is scrolled to."""
         found = "[...document.querySelectorAll(arguments[0])].find((one) => one.checkVisibility())"
-        self.wait(f"((...arguments) => {found})({json.dumps(selector)})", selector)
-        element = self.js(f"const it = {found}; it.scrollIntoView({{block: 'center'}}); return it", selector)
-        element.click()
+        for tries in range(5):
+            self.wait(f"((...arguments) => {found})({json.dumps(selector)})", selector)
+            try:
+                self.js(f"const it = {found}; it?.scrollIntoView({{block: 'center'}}); return it", selector).click()
+                return
+            except (AttributeError, StaleElementReferenceException):  # it was drawn anew meanwhile
+                if tries == 4:
+                    raise
 
     def write(self, name, text):
         field = self.get(name)
@@ -318,10 +323,9 @@ class Browser:
         self.js("localStorage.clear()")
         self.open()
 
-    @staticmethod
-    def mine(name, value):
-        """Writes a file that the office's machine makes for each user."""
-        path = f"{INSTALLED}/my/{name}.json"
+    def mine(self, name, value):
+        """Writes a file of this user's, as `zoneoffice-page` does."""
+        path = f"/var/lib/zoneoffice-my/caller-{self.user}/{name}.json"
         os.makedirs(os.path.dirname(path), exist_ok=True)
         with open(path, "w", encoding="utf-8") as file:
             json.dump(value, file)
@@ -350,6 +354,12 @@ class Browser:
         self.write("edit-data", data)
         self.press("#edit .main")
 
+    def begin(self, task):
+        """Begins a task of the menu."""
+        self.press("#more summary")
+        self.press(f"#more [data-task={task}]")
+        self.wait("document.getElementById('task').open", task)
+
     def finish_task(self):
         """Puts what a task comes to into the changes; it may ask a reverse zone before."""
         self.press("#task .main")
@@ -361,6 +371,15 @@ class Browser:
         self.press(f"[aria-label^='Change {what}']")
         self.write("edit-data", data)
         self.press("#edit .main")
+
+    def pictures(self, name, place="dialog[open]"):
+        """What is in sight, at three widths; from the place on that a selector says, or the top."""
+        for width in (1280, 390, 320) if PICTURES else ():
+            self.size(width, 800 if width > 500 else 700)
+            self.js("const at = document.querySelector(arguments[0]); at ? (at.scrollTo(0, 0), at.scrollIntoView()) : scrollTo(0, 0)", place)
+            time.sleep(0.3)
+            self.picture(f"{name}-{width}")
+        self.size()
 
     def picture(self, name):
         if not PICTURES:

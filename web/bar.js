@@ -67,7 +67,7 @@ function showPlan() {
     const {lines} = judged;
     const many = updates(judged);
     $("review-what").textContent = lines.length === 0 ? t("planEmpty") : many.length > 1 ? t("planInParts", many.length) : t("planWhole");
-    const focused = document.activeElement?.closest?.("#plan li")?.dataset.key;
+    const focused = document.activeElement?.closest?.("#plan > li")?.dataset.key;
     $("plan").replaceChildren(...lines.slice(0, 500).map(planLine), ...(lines.length > 500 ? [make("li", {}, t("andMore", lines.length - 500))] : []));
     if (focused && !$("plan").contains(document.activeElement)) {
         ([...$("plan").children].find(({dataset}) => dataset.key === focused)?.querySelector("button") ?? $("review-head")).focus();

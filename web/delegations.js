@@ -1,6 +1,6 @@
 // Delegations: the children of the zone, their servers, addresses and keys as a picture, and the forms that make, change and end one.
 
-import {$, button, code, field, hint, make, say} from "./elements.js";
+import {$, button, code, field, hint, make, otherReading, say} from "./elements.js";
 import {ADDRESSES, readData, readIpv4, readIpv6, readTtl, ttlText} from "./data.js";
 import {putIn} from "./draft.js";
 import {faultsBefore} from "./judge.js";
@@ -107,8 +107,11 @@ function showHints() {
         const [name, addresses] = server.querySelectorAll("input");
         const read = name.value.trim() === "" ? {} : readTarget(name.value, state.zone.origin, has);
         const isStrange = read.name && !isHost(read.name);
-        const text = read.fault ? faultText(read) : !read.name ? "" : `${t("is", named(read.name))}${read.other ? `; ${t("orWrite", read.other)}` : ""}${isStrange ? `; ${t("noHost")}` : ""}`;
+        const text = read.fault ? faultText(read) : !read.name ? "" : `${t("is", named(read.name))}${isStrange ? `; ${t("noHost")}` : ""}`;
         hint(name.id, text, Boolean(read.fault || isStrange));
+        if (read.other) {
+            $(`${name.id}-hint`).append(" ", otherReading(name, read.other));
+        }
         const isOwn = read.name && child.name && isWithin(read.name, child.name);
         hint(addresses.id, !read.name ? "" : isOwn ? t("needsAddress") : t("needsNoAddress"), false);
     }

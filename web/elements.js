@@ -58,6 +58,13 @@ export function field(id, label, more = {}) {
     return make("div", {class: "field"}, make("label", {for: id}, label), input, make("p", {class: "hint", id: `${id}-hint`}));
 }
 
+/** A button that takes the other reading of a name in a field. */
+export const otherReading = (input, other) => button(t("ratherThis", other), () => {
+    input.value = other;
+    input.focus();
+    input.dispatchEvent(new Event("input", {bubbles: true}));
+});
+
 /** A hint below a field: what is meant, or what is wrong. */
 export function hint(id, text, isFault = false, kind = "") {
     const shown = $(`${id}-hint`);

@@ -60,7 +60,7 @@ export function movesOf({removed, added}) {
 function moveItem({old, now}) {
     const {name, type} = now ?? old;
     const letters = toUnicode(name);
-    const link = make("a", {href: `#records?record=${encodeURIComponent(name)}`}, code(name));
+    const link = make("a", {href: `#records/${encodeURIComponent(state.zone.origin)}?record=${encodeURIComponent(name)}`}, code(name));
     const kind = old && now ? "changed" : now ? "came" : "went";
     const sign = {changed: "↔", came: "+", went: "−"}[kind];
     const value = old && now && old.data === now.data ? [code(now.data), ` ${t("ttl")} `, make("del", {}, ttlText(old.ttl)), " → ", make("ins", {}, ttlText(now.ttl))]
@@ -82,7 +82,7 @@ function changeItem(change) {
 
 export function showChanges() {
     const words = $("changes-filter").value.toLowerCase().split(/\s+/).filter(Boolean);
-    const text = ({removed, added, number}) => [...removed, ...added, ...[trail[number]?.caller, trail[number]?.person].filter(Boolean)].join("\n").toLowerCase();
+    const text = ({removed, added, number}) => [...removed, ...added, ...Object.values(trail[number] ?? {})].join("\n").toLowerCase();
     const found = words.length ? changes.filter((change) => words.every((word) => text(change).includes(word))) : changes;
     $("changes-list").replaceChildren(...found.slice(-shown).reverse().map(changeItem));
     $("changes-more").hidden = found.length <= shown && ((changes[0]?.number ?? 1) === 1 || words.length > 0);

@@ -13,7 +13,7 @@ function words({state: kind, serial, served, since, reason, change, caller, othe
         return ["good", t("isLive", serial, ago(since))];
     }
     if (kind === "waiting") {
-        return ["warn", t("isWaiting", serial, served ?? "?", ago(since))];
+        return ["warn", typeof served === "number" ? t("isWaiting", serial, served, ago(since)) : t("isNew", serial, ago(since))];
     }
     if (kind !== "held") {
         return null;

@@ -1,7 +1,7 @@
 // The page of the office: what a department sees and changes of its zones, by the routes that docs/api.md has. This is its beginning: who
 // the caller is, which zone and view the address names, and what is read for it.
 
-import {$, afterTyping, option, say, translate} from "./elements.js";
+import {$, afterTyping, make, option, say, translate} from "./elements.js";
 import {startBar} from "./bar.js";
 import {readDelegations, startDelegations} from "./delegations.js";
 import {readDraft} from "./draft.js";
@@ -9,6 +9,7 @@ import {startEditor} from "./editor.js";
 import {readChanges, startHistory} from "./history.js";
 import {startLive} from "./live.js";
 import {forgetRights, inWords, mine, request} from "./office.js";
+import {isReverse} from "./names.js";
 import {readRecords} from "./reading.js";
 import {askTyped, startRights} from "./rights.js";
 import {keptJobs, resume} from "./sending.js";
@@ -91,6 +92,7 @@ function takeZone(origin) {
 
 // ---- the start
 
+const CHOSEN = "zoneoffice chosen";
 const chosenKey = (person) => `zoneoffice as ${person}`;
 
 /** Who may act for several callers chooses one; a choice begins the page anew, so that nothing of another caller is left in it. */
@@ -102,9 +104,14 @@ function chooseCaller({person, callers}) {
     $("as").value = state.caller;
     $("as").addEventListener("change", () => {
         localStorage.setItem(chosenKey(person), $("as").value);
+        sessionStorage.setItem(CHOSEN, "yes");
         location.reload();
     });
     $("choice").hidden = false;
+    if (sessionStorage.getItem(CHOSEN)) { // the focus stays where it was
+        sessionStorage.removeItem(CHOSEN);
+        $("as").focus();
+    }
     $("caller").textContent = person;
 }
 
@@ -147,9 +154,13 @@ function listen() {
     [startBar, startEditor, startTable, startRights, startHistory, startDelegations, startTasks].forEach((begin) => begin());
 }
 
-async function readZones(all) {
-    const own = await mine("zones");
-    return Array.isArray(own?.origins) && own.origins.length ? own.origins : all;
+/** The caller's zones, or all of the page's list; those of addresses stand apart. */
+function takeZones(own, all) {
+    state.zones = Array.isArray(own?.origins) && own.origins.length ? own.origins : all;
+    state.contacts = own?.contacts ?? {};
+    const reverse = state.zones.filter(isReverse);
+    $("zone").append(...state.zones.filter((name) => !isReverse(name)).map((name) => option(name)),
+        ...(reverse.length ? [make("optgroup", {label: t("reverseZones")}, ...reverse.map((name) => option(name)))] : []));
 }
 
 /** Who the caller is: as the front server says, or as the person chooses. */
@@ -173,7 +184,7 @@ export async function start() {
     translate();
     document.body.classList.remove("loading");
     say(t("readingWho"));
-    const [table, zones] = await Promise.all(["refusals", "zones"].map((name) => request("GET", `/page/${name}.json`)));
+    const [table, zones, own] = await Promise.all([...["refusals", "zones"].map((name) => request("GET", `/page/${name}.json`)), mine("zones")]);
     if (table.status !== 200 || zones.status !== 200) {
         say(t("cannotStart", inWords(table.status === 200 ? zones : table)));
         return;
@@ -182,8 +193,7 @@ export async function start() {
     if (!await whoAmI(zones.caller)) {
         return;
     }
-    state.zones = await readZones(zones.json);
-    $("zone").append(...state.zones.map((name) => option(name)));
+    takeZones(state.actsFor.length ? await mine("zones") : own, zones.json);
     const last = stored(`zoneoffice zone ${state.caller}`);
     const named = readAddress().zone;
     listen();

@@ -1,7 +1,7 @@
 // The words of what was judged: each mark has a kind (good, warn, bad, note), a text, and sometimes what can be done at once.
 
 import {button, make} from "./elements.js";
-import {toUnicode, relative} from "./names.js";
+import {isReverse, toUnicode, relative} from "./names.js";
 import {decidedBy, rightOf} from "./office.js";
 import {stopsZone} from "./rules.js";
 import {state} from "./state.js";
@@ -18,17 +18,20 @@ export function named(name) {
 
 const own = (name) => relative(name, state.zone.origin);
 
-/** Who can be asked: the mailbox in the SOA, where the caller sees it. */
+/** Who can be asked: the mailbox of the SOA; where the caller does not see it, that of RFC 2142 section 7. */
 function mailbox() {
-    const [soa] = state.zone.set(state.zone.origin, "SOA");
+    const {origin} = state.zone;
+    const [soa] = state.zone.set(origin, "SOA");
     const name = soa?.data.split(" ")[1];
-    return name ? name.slice(0, -1).replace(/((?:[^.\\]|\\.)+)\./s, (_, local) => `${local.replace(/\\(.)/g, "$1")}@`) : "";
+    const written = name?.slice(0, -1).replace(/((?:[^.\\]|\\.)+)\./s, (_, local) => `${local.replace(/\\(.)/g, "$1")}@`);
+    return (/^[\w.+-]+@[a-z0-9.-]+$/i.test(written) ? written : state.contacts[origin]) ?? (isReverse(origin) ? "" : `hostmaster@${origin.slice(0, -1)}`);
 }
 
-/** A mail to those who write the policy, ready to be sent. */
-export function mailLink(denials) {
+/** A mail to those who write the policy, ready to be sent: about what they deny, or about all where nothing may be listed. */
+export function mailLink(denials = []) {
     const what = denials.map(({action, name, type, by}) => `${action} ${type} ${name} (${by})`);
-    const words = new URLSearchParams({subject: t("mailSubject", state.zone.origin), body: t("mailBody", state.caller, what.join("\n"))});
+    const body = what.length ? t("mailBody", state.caller, what.join("\n")) : t("mailNone", state.caller, state.zone.origin);
+    const words = new URLSearchParams({subject: t("mailSubject", state.zone.origin), body});
     return make("a", {href: `mailto:${mailbox()}?${words.toString().replaceAll("+", "%20")}`}, t("mailLink"));
 }
 

@@ -99,6 +99,9 @@ export const isHost = (name) => name === "." || HOST.test(name);
 /** The same of an owner, which may begin with the asterisk of a wildcard. */
 export const isHostOwner = (name) => name === "." || HOST_OWNER.test(name);
 
+/** Whether a name is of those that lead from addresses to names. */
+export const isReverse = (name) => isWithin(name, "in-addr.arpa.") || isWithin(name, "ip6.arpa.");
+
 /** The name below which the addresses of a kind have theirs, as 1.2.0.192.in-addr.arpa. */
 export function reverseOf(type, address) {
     if (type === "A") {

@@ -33,20 +33,22 @@ async function once(method, path, body) {
 }
 
 /** Sends a request, and gives its status (0: no reply came), its JSON, and as whom the front server took it. A question for which too
- * many others are open is asked again a little later: those of a page that was just left count too. */
+ * many others are open is asked again a little later: those of a page that was just left count too. One without a reply is asked once
+ * more, since a connection may end just when it is sent. */
 export async function request(method, path, body) {
     for (let tries = 1; ; tries++) {
         const reply = await once(method, path, body);
-        if (method !== "GET" || reply.status !== 429 || tries === MOST_TRIES) {
+        const isLost = reply.status === 0 && tries === 1;
+        if (method !== "GET" || tries === MOST_TRIES || !(isLost || reply.status === 429)) {
             return reply;
         }
-        await pause(tries);
+        await pause(isLost ? 0.3 : tries);
     }
 }
 
 /** A file that the office's machine may make for each user, or null where it does not. */
 export async function mine(name) {
-    const {status, json} = await request("GET", `/page/my/${name}.json`);
+    const {status, json} = await request("GET", `${asCaller()}/page/my/${name}.json`);
     return status === 200 ? json : null;
 }
 

@@ -77,6 +77,21 @@ function restore({operations, prerequisites}, job) {
     keepDraft(job.zone, {...draft, edits: [...draft.edits, ...edits]}, job.caller);
 }
 
+/** Leads to the plan, which has what the result said of each change. */
+function toReview() {
+    $("result").hidden = true;
+    location.hash = "review";
+    $("review-head").focus();
+}
+
+const reviewButton = () => button(t("reviewButton"), toReview, {class: "main", id: "result-review"});
+
+/** A record of a large set was changed meanwhile: nothing was sent. */
+export function showStale() {
+    show("refused", t("notMadeMeanwhile"), [make("p", {}, t("conflictWhat"))], [reviewButton()]);
+    say(t("notMadeMeanwhile"));
+}
+
 export async function showRefused(job, reply, made) {
     const body = JSON.parse(job.body);
     const {list, item, by} = reply.json;
@@ -93,7 +108,7 @@ export async function showRefused(job, reply, made) {
     const part = made.length ? [make("p", {}, t("partsMade", made.length, job.count))] : [];
     show("refused", t(isConflict ? "notMadeMeanwhile" : "notMade"),
         [...part, ...(isConflict ? [make("p", {}, t("conflictWhat"))] : [...(name ? [name] : []), ...words])],
-        [button(t("reviewButton"), () => (location.hash = "review"), {class: "main", id: "result-review"})]);
+        [reviewButton()]);
     say(`${t("notMade")}: ${lacks.length ? lacks.map(deniedText).join("; ") : inWords(reply)}`);
 }
 

@@ -1,7 +1,7 @@
 // What the office takes and other name servers refuse or warn of: the rules of `zoneoffice check zone` (docs/formats.md).
 
 import {targetOf} from "./data.js";
-import {isHost, isHostOwner, isWithin, labelsOf, parentOf} from "./names.js";
+import {isHost, isHostOwner, isReverse, isWithin, labelsOf, parentOf} from "./names.js";
 import {upwards} from "./zone.js";
 
 export const RULES = ["host-name", "alias-target", "missing-address", "missing-glue", "below-cut", "ds-without-ns"];
@@ -23,7 +23,6 @@ function isBrowsing(name) {
 }
 
 const isMailbox = (name) => name === "." || isHost(parentOf(name));
-const isReverse = (name) => isWithin(name, "in-addr.arpa.") || isWithin(name, "ip6.arpa.");
 const fitsOwner = {
     A: ({name}) => isHostOwner(name) || isGlobalCatalog(name) || labelsOf(name).some((label) => SPF_LABELS.includes(label)),
     AAAA: ({name}) => isHostOwner(name) || isGlobalCatalog(name),

@@ -5,7 +5,7 @@ import {$, button, code, make, say} from "./elements.js";
 import {draftOf, keepDraft, mark, takeOutMade, unmark} from "./draft.js";
 import {updates} from "./judge.js";
 import {asCaller, forgetRights, inWords, part, request} from "./office.js";
-import {showGivenUp, showMade, showRefused} from "./result.js";
+import {showGivenUp, showMade, showRefused, showStale} from "./result.js";
 import {announce, state, store, stored} from "./state.js";
 import {clock, t} from "./text.js";
 import {readRecords} from "./reading.js";
@@ -40,7 +40,7 @@ function jobOf({edits, prerequisites, operations}, zone, place, count) {
 /** Whether a record of a large set is no longer as it was seen: such a set is guarded by its being there, so its records are compared
  * just before they are sent. */
 async function isStale({lines}) {
-    const isLarge = ({edit, isBlocked}) => !isBlocked && setsOf(edit).some(({name, type}) => state.zone.set(name, type).length > LARGE);
+    const isLarge = ({edit, isBlocked}) => !isBlocked && !edit.sent && setsOf(edit).some(({name, type}) => state.zone.set(name, type).length > LARGE);
     const olds = lines.filter(isLarge).flatMap(({edit: {old, drop = []}}) => [old, ...drop]).filter(Boolean);
     for (const name of new Set(olds.map((record) => record.name))) {
         const {json} = await request("GET", `${asCaller()}/zones/${part(state.zone.origin)}/records/${part(name)}`);
@@ -52,8 +52,24 @@ async function isStale({lines}) {
     return false;
 }
 
-/** Sends what can be sent of the draft, in as many updates as it takes, and after them what is to follow in other zones. */
+let isChecking = false;
+
+/** Sends what can be sent of the draft, unless a record of a large set is another one by now. */
 export async function send(judged) {
+    if (isChecking) {
+        return; // it was pressed twice
+    }
+    isChecking = true;
+    const isOld = await isStale(judged).finally(() => (isChecking = false));
+    if (!isOld) {
+        await sendAll(judged);
+    } else if (await readRecords()) {
+        showStale();
+    }
+}
+
+/** In as many updates as it takes, and after them what is to follow in other zones. */
+async function sendAll(judged) {
     const origin = state.zone.origin;
     const jobs = updates(judged).map((update, at, all) => jobOf(update, origin, at + 1, all.length));
     $("result").hidden = true;
@@ -145,14 +161,15 @@ async function deliver(job) {
     return undefined;
 }
 
+/** A reply came. The changes are put right before the update is forgotten: other windows take both in this order. */
 function end(job, reply) {
     state.waiting.delete(job.id);
-    localStorage.removeItem(jobKey(job));
     if (reply.status === 200) {
         takeOutMade(job.zone, job.keys ?? [], job.caller);
     } else {
         unmark(job.zone, job.id, job.caller);
     }
+    localStorage.removeItem(jobKey(job));
     showWaiting();
     announce("waiting");
 }
@@ -205,13 +222,19 @@ function showLeft(job) {
 
 function showWaiting() {
     const jobs = [...state.waiting.values()].filter((job) => job.why !== undefined);
+    const focused = document.activeElement?.closest?.("#waiting-list li");
+    const place = focused ? [...focused.querySelectorAll("button")].indexOf(document.activeElement) : -1;
     $("waiting").hidden = jobs.length === 0;
     $("waiting-list").replaceChildren(...jobs.map((job) => {
         job.shown = make("span", {});
         showLeft(job);
-        return make("li", {}, code(job.id), ` ${t("waitingOf", job.zone, clock(job.since), job.why)} `, job.shown, ". ",
+        return make("li", {"data-id": job.id}, code(job.id), ` ${t("waitingOf", job.zone, clock(job.since), job.why)} `, job.shown, ". ",
             button(t("sendAgainNow"), () => job.now?.(), {class: "main"}), " ", button(t("giveUp"), () => giveUp(job), {class: "give-up"}));
     }));
+    if (focused) {
+        const same = [...$("waiting-list").children].find(({dataset}) => dataset.id === focused.dataset.id);
+        (same?.querySelectorAll("button")[place] ?? $("main")).focus();
+    }
 }
 
 /** Stops waiting for an update, of which nobody knows whether it was made. */

@@ -7,6 +7,7 @@ export const state = {
     caller: "",
     actsFor: [], // of whom the person chooses the caller; empty where the front server knows it
     zones: [],
+    contacts: {}, // the mailboxes of who answers for zones, as far as the office's machine says
     zone: new Zone("."),
     isRead: false, // whether `zone` has its records
     draft: {edits: [], unguarded: []},

@@ -4,13 +4,13 @@ import {$, button, cell, make, row, rowHead} from "./elements.js";
 import {ttlText, textOf, TYPES, DELEGATING} from "./data.js";
 import {editOfRecord, putIn, takeOut} from "./draft.js";
 import {openEditor} from "./editor.js";
-import {dataShown, deniedText} from "./marks.js";
+import {dataShown, deniedText, mailLink} from "./marks.js";
 import {askRights, rightOf} from "./office.js";
 import {search, sorted} from "./search.js";
 import {on, state} from "./state.js";
 import {figure, t} from "./text.js";
 import {toUnicode, isWithin} from "./names.js";
-import {setKey} from "./zone.js";
+import {lineOf, setKey} from "./zone.js";
 
 const PIECE = 50; // rows of one body of the table
 const ROW = 36; // pixels that a row is taken to have while the view is hidden
@@ -25,6 +25,10 @@ export function showRecords() {
     filtered = sorted(test ? state.zone.records.filter(test) : state.zone.records, order.column, order.isBack);
     const total = state.zone.records.length;
     $("count").textContent = !state.isRead ? t("notReadYet") : total === 0 ? t("mayListNone") : test ? t("matching", filtered.length, total) : t("records_", total);
+    if (state.isRead && total === 0) {
+        $("count").append(" ", mailLink());
+    }
+    $("download").disabled = filtered.length === 0;
     $("table").setAttribute("aria-rowcount", filtered.length + 1);
     showTypes(test);
     showPieces();
@@ -273,6 +277,14 @@ function rowAt(at) {
     return piece?.children[at - Number(piece.dataset.from)];
 }
 
+/** Gives the records that match as a master file. */
+function download() {
+    const link = make("a", {href: URL.createObjectURL(new Blob([filtered.map((record) => `${lineOf(record)}\n`).join("")], {type: "text/plain"})),
+        download: `${state.zone.origin}zone`.replaceAll("/", "_")});
+    link.click();
+    setTimeout(() => URL.revokeObjectURL(link.href), 60000);
+}
+
 /** Shows a record, by a link say. */
 export function goTo(name) {
     const at = filtered.findIndex((record) => record.name === name);
@@ -285,6 +297,7 @@ export function goTo(name) {
 export function startTable() {
     on("zone", showRecords);
     on("draft", redrawEdits);
+    $("download").addEventListener("click", download);
     $("table").addEventListener("keydown", move);
     $("table").addEventListener("focusin", ({target}) => {
         if (target.matches("tbody button")) {

@@ -1,7 +1,7 @@
 // Tasks that take several records: a new host, one that moves or goes, an alias, a domain that gets mail, and what is pasted. An entry of
 // a reverse zone is a second update, which is sent once the first is made.
 
-import {$, afterTyping, code, field, hint, make, option, say} from "./elements.js";
+import {$, afterTyping, button, code, field, hint, make, option, otherReading, say} from "./elements.js";
 import {ADDRESSES, readData, readIpv4, readIpv6, readTtl} from "./data.js";
 import {putIn} from "./draft.js";
 import {editWords, named} from "./marks.js";
@@ -158,7 +158,7 @@ const TASKS = {
             const target = {...(value("target").trim() === "" ? {fault: "empty"} : readTarget(value("target"), state.zone.origin, has)), at: "target"};
             const bad = firstFault(name, target, ttl);
             return bad ?? {edits: [{now: {name: name.name, ttl: ttl.ttl, type: "CNAME", data: target.name}}],
-                notes: [target.other ? `${t("is", target.name)}; ${t("orWrite", target.other)}` : t("is", target.name)]};
+                notes: [[t("is", target.name), ...(target.other ? [" ", otherReading($("task-target"), target.other)] : [])]]};
         },
     },
     mailDomain: {
@@ -228,7 +228,7 @@ async function preview() {
         make("span", {class: "tag"}, t("line", line)), " ", words))
         : edits.flatMap((edit) => [make("li", {class: "mark"}, code(named((edit.now ?? edit.old).name)), " ", ...editWords(edit)),
             ...(edit.then ?? []).map((next) => make("li", {class: "mark"}, t("thenIn", next.zone), " ", code((next.now ?? next.old).name), " ", ...editWords(next)))]);
-    $("task-marks").replaceChildren(...notes.map((text) => make("li", {class: "mark note"}, text)), ...lines);
+    $("task-marks").replaceChildren(...notes.map((parts) => make("li", {class: "mark note"}, ...[parts].flat())), ...lines);
 }
 
 async function submit(event) {
@@ -250,15 +250,19 @@ async function submit(event) {
     location.hash = "review";
 }
 
+/** Closes the menu of tasks, with the focus where it was opened. */
+function closeMenu() {
+    $("more").querySelector("summary").focus();
+    $("more").open = false;
+}
+
 export function startTasks() {
-    $("more").append(option("", t("moreTasks")), ...Object.keys(TASKS).filter((name) => name !== "newHost").map((name) => option(name, t(name))));
-    $("more").addEventListener("change", () => {
-        const name = $("more").value;
-        $("more").value = "";
-        if (name) {
-            openTask(name);
-        }
-    });
+    $("more").querySelector("ul").append(...Object.keys(TASKS).filter((name) => name !== "newHost").map((name) => make("li", {}, button(t(name), () => {
+        closeMenu();
+        openTask(name);
+    }, {"data-task": name}))));
+    $("more").addEventListener("keydown", ({key}) => key === "Escape" && closeMenu());
+    addEventListener("click", ({target}) => $("more").contains(target) || ($("more").open = false));
     $("new-host").addEventListener("click", () => openTask("newHost"));
     $("task-form").addEventListener("submit", submit);
     $("task-form").addEventListener("input", afterTyping(preview, 200));

@@ -15,7 +15,7 @@ from collections.abc import Iterable, Iterator
 from typing import Any
 
 from .files import Folder
-from .names import is_within, labels, record_of
+from .names import is_within, labels, mailbox, record_of
 from .office import Change, Office
 from .policy import Policy
 
@@ -101,6 +101,7 @@ class History:  # pylint: disable=too-many-instance-attributes,attribute-defined
         self.entries: list[Entry] = []
         self.pending: list[Pending] = []
         self.children: dict[str, Any] | None = None
+        self.contact: str | None = None  # who answers for the zone; "" if its SOA names nobody to whom one could write
         self.reached = 0.0  # when the last update came of which the change is known
         self.is_new = True
 
@@ -116,6 +117,7 @@ class History:  # pylint: disable=too-many-instance-attributes,attribute-defined
                 self.entries = [Entry(one[0], one[1], kept["sets"][one[2]], Made(*one[3]) if one[3] else None) for one in kept["entries"]]
                 self.pending = [Pending(*one) for one in kept["pending"]]
                 self.children, self.reached, self.is_new = kept["children"], float(kept["reached"]), False
+                self.contact = None if kept.get("contact") is None else str(kept["contact"])
         except (ValueError, LookupError, TypeError, RecursionError):
             self.forget()
 
@@ -126,7 +128,8 @@ class History:  # pylint: disable=too-many-instance-attributes,attribute-defined
                     list(dataclasses.astuple(one.made)) if one.made else None] for one in self.entries]
         kept = {"zone": self.zone, "number": self.number, "length": self.length, "compared": self.compared, "policy": self.policy,
                 "serial": self.serial, "moved": self.moved, "counts": self.counts, "sets": [list(one) for one in sets], "entries": entries,
-                "pending": [list(dataclasses.astuple(one)) for one in self.pending], "children": self.children, "reached": self.reached}
+                "pending": [list(dataclasses.astuple(one)) for one in self.pending], "children": self.children, "reached": self.reached,
+                "contact": self.contact}
         self.folder.put(f"{self.name}.json", json.dumps(kept, separators=(",", ":")).encode(), 0o600)
 
     # The record sets of all changes, a line a change: OWNER TYPE OWNER TYPE ..
@@ -214,6 +217,7 @@ class History:  # pylint: disable=too-many-instance-attributes,attribute-defined
             record = record_of(line)
             if record.type == "SOA":
                 self.serial = int(record.data.split(" ")[2])
+                self.contact = mailbox(record.data)
         if self.children is not None and any(self.concerns_children(*pair) for pair in pairs):
             self.children = None
         return " ".join(f"{owner} {kind}" for owner, kind in pairs)

@@ -7,6 +7,7 @@ import re
 TYPES = ("A", "NS", "CNAME", "SOA", "PTR", "MX", "TXT", "AAAA", "SRV", "DS")
 # end
 IDENTIFIER = re.compile(r"[A-Za-z0-9._-]{1,64}", re.ASCII)  # a caller
+ADDRESS = re.compile(r"[A-Za-z0-9._+-]{1,63}@[a-z0-9-]+(?:\.[a-z0-9-]+)+", re.ASCII)  # of a mailbox
 LINE = re.compile(r"([!-~]*\.) ([0-9]{1,10}) IN ([A-Z0-9]{1,10}) ([ -~]+)", re.ASCII)
 
 Labels = tuple[bytes, ...]
@@ -57,3 +58,11 @@ def record_of(line: str) -> Record:
     if not found:
         raise ValueError("it is not the line of a record")
     return Record(found[1], int(found[2]), found[3], found[4])
+
+
+def mailbox(soa: str) -> str:
+    """The address of who answers for a zone, by the data of its SOA (RFC 1035 section 3.3.13); nothing if it is an odd one."""
+    words = soa.split(" ")
+    parts = [label.decode("latin-1") for label in reversed(labels(words[1]))] if len(words) > 1 else []
+    address = f"{parts[0]}@{'.'.join(parts[1:])}" if parts else ""
+    return address if ADDRESS.fullmatch(address) else ""

@@ -16,6 +16,7 @@ from .names import record_of
 SECONDS = 60
 LONGEST = 64 << 20  # octets of a reply that is read as a whole, and of a change
 PIECE = 1 << 20
+LINE = 4096  # octets of a line with an SOA
 PAUSES = 0.5, 1, 2, 4
 HEAD = '{"changes":['
 
@@ -111,6 +112,16 @@ class Office:
     def records(self, zone: str, name: str) -> list[str]:
         """The lines of the records within a name."""
         return self.lines(self.reply(zone, "records", name).get("records"))
+
+    def soa(self, zone: str) -> str:
+        """The data of the SOA, which is the first record of a zone as a master file; nothing if the policy hides it."""
+        with self.asked(zone, "file") as response:
+            _, line = response.readline(LINE), response.readline(LINE)  # after $ORIGIN
+        try:
+            record = record_of(line.decode("latin-1").rstrip("\n"))
+        except ValueError:
+            return ""
+        return record.data if record.type == "SOA" else ""
 
     def delegations(self, zone: str) -> dict[str, list[str]]:
         """The servers of each delegation, by child."""

@@ -13,6 +13,7 @@ from . import children, status
 from .files import Folder, Unsafe, printable, read
 from .history import History, gone
 from .matching import find
+from .names import mailbox
 from .office import Away, NoZone, Office
 from .policy import OTHERS, Wrong, read_policy
 from .trail import Trail, Update, printed
@@ -111,6 +112,8 @@ class Run:  # pylint: disable=too-many-instance-attributes
             if self.away < AWAY:
                 history.follow(office, self.policy)
                 children.gather(office, history)
+                if history.contact is None:
+                    history.contact = mailbox(office.soa(zone))
         except NoZone:
             gone(self.state, zone)
             return
@@ -167,7 +170,8 @@ class Run:  # pylint: disable=too-many-instance-attributes
         mine = [one for one in self.histories.values() if self.policy.has_anything(caller, one.origin)]
         mine.sort(key=lambda one: (one.origin[:1] == (b"arpa",), one.origin))
         texts: dict[str, Any] = {
-            "zones.json": {"caller": caller, "origins": [one.zone for one in mine]},
+            "zones.json": {"caller": caller, "origins": [one.zone for one in mine],
+                           "contacts": {one.zone: one.contact for one in mine if one.contact}},
             "status.json": {one.zone: status.for_caller(self.statuses[one.zone], one, self.policy, caller)
                             for one in mine if one.zone in self.statuses},
             "trail.json": trail_for(caller, mine),

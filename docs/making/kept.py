@@ -20,6 +20,9 @@ LISTS = {
         ("client/office_client/tables.py", "types", lists.types_of_client),
         ("adapters/office_records.py", "types", lists.types_of_adapters),
     ],
+    "modules": [
+        ("web/index.html", "modules", lists.modules_of_page),
+    ],
     "actions": [
         ("docs/policy.md", "actions", lists.actions_listed),
         ("docs/policy.md", "what actions allow", lists.actions_of_policy),

@@ -1,10 +1,11 @@
 """The lists of record types, actions, commands and routes that stand in files written by hand."""
 
 import json
+import os
 import re
 
 from making import sources
-from making.files import Wrong, read, table
+from making.files import TOP, Wrong, read, table
 from making.marks import rows_by_hand
 
 # what reads a field of record data on the page, by its kind; a type of strings has no fields there
@@ -61,6 +62,13 @@ def types_of_client(_):
 
 def types_of_adapters(_):
     return "TYPES = " + str(tuple(one.name for one in sources.types())).replace("'", '"')
+
+
+# Modules of the page
+
+def modules_of_page(_):
+    names = sorted(name for name in os.listdir(os.path.join(TOP, "web")) if name.endswith(".js") and name != "page.js")
+    return "\n".join(f'<link rel="modulepreload" href="/page/{name}">' for name in names)
 
 
 # Actions

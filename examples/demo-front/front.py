@@ -66,6 +66,8 @@ def read_files():
             if kind:
                 with open(os.path.join(folder, name), "rb") as it:
                     files[place + name] = kind, it.read(), {}
+    with open(os.path.join(TOP, "docs/openapi.yaml"), "rb") as it:
+        files["/page/openapi.yaml"] = "application/yaml", it.read(), {}
     kind, page, _ = files.pop("/page/index.html")
     files["/"] = kind, with_warning(page), {}
     kind, tour, _ = files.pop("/demo/tour.html")
