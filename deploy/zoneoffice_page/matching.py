@@ -156,7 +156,8 @@ class Waiting:
 
 
 def find(history: History, updates: list[Update], policy: Policy, trailed: float) -> tuple[dict[int, Made], list[Update]]:
-    """Who made the pending changes of a zone, as far as it is found, and the updates that wait further; the trail was read at this time. From the last change on, each
+    """Who made the pending changes of a zone, as far as it is found, and the updates that wait further; the trail was read at this time.
+    From the last change on, each
     gets the last update that asks for it; and then, from the first on, the first one after the update of the change before. Where a
     zone's history is read for the first time, the trail may begin long before, and the last ones stay."""
     known = {(one.made.caller, one.made.id) for one in history.entries if one.made and one.made.id}
