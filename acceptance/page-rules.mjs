@@ -11,7 +11,7 @@ import {get} from "node:http";
 
 const [program, folder, count, seed] = process.argv.slice(2);
 const page = (name) => import(`${folder}/${name}.js`);
-const [{readData, nameField}, {conflictOf, foresee, look, updatesOf}, {compareNames, readOwner}, {pointsOf, testPoints, pointKey}, {findings},
+const [{readData, nameField}, {conflictOf, foresee, look, updatesOf}, {compareNames, readOwner}, {pointsOf, testPoints, pointKey}, {findings, RULES},
     {lineOf, Zone, readLine}] = await Promise.all(["data", "edits", "names", "points", "rules", "zone"].map(page));
 
 const AT_ONCE = 3;
@@ -193,7 +193,8 @@ async function compareFindings(origin, records) {
     const ordered = [...records].sort((a, b) => compareNames(a.name, b.name));
     const zone = new Zone(origin, ordered);
     const found = findings(foresee([], zone).outlook).map(({rule, record}) => `${rule} ${lineOf(record)}`);
-    const said = (await run(zoneText(ordered), "check", "zone", "--origin", origin)).trim().split("\n").filter(Boolean);
+    const said = (await run(zoneText(ordered), "check", "zone", "--origin", origin)).trim().split("\n")
+        .filter((line) => RULES.includes(line.split(" ")[0]));
     tell("findings", said.length);
     if (found.sort().join("\n") !== said.sort().join("\n")) {
         differ("what is at fault in a zone", ordered.map(lineOf), found.filter((line) => !said.includes(line)), said.filter((line) => !found.includes(line)));

@@ -1,4 +1,4 @@
-// What the office takes and other name servers refuse or warn of: the rules of `zoneoffice check zone` (docs/formats.md).
+// What the office takes and other name servers refuse or warn of: the first six rules of `zoneoffice check zone` (docs/formats.md).
 
 import {targetOf} from "./data.js";
 import {isHost, isHostOwner, isReverse, isWithin, labelsOf, parentOf} from "./names.js";

@@ -1,4 +1,4 @@
-"""The six rules of `zoneoffice check zone`: what the office takes, and other name servers refuse or warn of (docs/formats.md, `check`)."""
+"""The first six rules of `zoneoffice check zone`: what the office takes, and other name servers refuse or warn of (docs/formats.md)."""
 
 import re
 from collections.abc import Iterable
