@@ -16,3 +16,4 @@ mod ExpectationLemmas
 mod WordLaws
 mod ReadingLemmas
 mod ExpectationLaws
+mod SliceLemmas

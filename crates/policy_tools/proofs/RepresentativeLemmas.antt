@@ -62,7 +62,7 @@ pub within_longer : (a b : List (List ℕ)) → IsWithin a b → length b ≤ le
 within_longer a b (f, e) = omega (arith, ap (length {A = List ℕ}) e, length-append f b)
 
 -- what is before a name, without the label that is next to it
-last_label : (label : List ℕ) (front top : List (List ℕ)) → (x : List ℕ) × IsWithin ((label ∷ front) ++ top) (x ∷ top)
+pub last_label : (label : List ℕ) (front top : List (List ℕ)) → (x : List ℕ) × IsWithin ((label ∷ front) ++ top) (x ∷ top)
 last_label label [] top = (label, ([], refl))
 last_label label (next ∷ front) top =
     let l = last_label next front top in

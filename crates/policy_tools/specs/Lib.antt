@@ -15,3 +15,4 @@ pub mod Expectations
 pub mod ExpectationFaults
 pub mod ExpectationLines
 pub mod ExpectationReading
+pub mod Slices

@@ -23,6 +23,7 @@ mod points;
 mod representatives;
 mod rights;
 mod shared_callers;
+mod slices;
 mod taking;
 mod wanted;
 
@@ -40,3 +41,4 @@ pub use name_changes::{CallerChange, Change, NameChanges};
 pub use name_groups::{GroupRights, NameGroup, rights_by_group};
 pub use name_rights::{CallerRights, NameRights, rights_at};
 pub use rights::Rights;
+pub use slices::{slice_of, stray_rules, unspoken_origins};
