@@ -1,10 +1,10 @@
 -- Which rules speak of names within an origin, and what the others do not decide there.
-use Rattle.std.proofs.Common.{◌≡◌, ◌≢◌, ◌↔◌, ◌⊎◌, inl, inr, ℕ, ◌+◌, ◌<◌, ◌≤◌, Bool, true, false, ◌&&◌, cond, List, [], ◌∷◌, ◌++◌, length, map, get_or, take, Option, Some, None, Result, Ok, Err, IfOk, Vec, Global, Bor, refl, sym, ap, ◌∙◌, subst, ⊎_elim, arith}
+use Rattle.std.proofs.Common.{◌≡◌, ◌≢◌, ◌↔◌, ◌⊎◌, inl, inr, ℕ, zero, suc, ◌+◌, ◌<◌, ◌≤◌, Bool, true, false, ◌&&◌, cond, List, [], ◌∷◌, ◌++◌, length, map, get_or, take, Option, Some, None, Result, Ok, Err, IfOk, Vec, Global, Bor, refl, sym, ap, ◌∙◌, subst, ⊎_elim, arith}
 use Rattle.std.specs.Prelude.{is_ok}
-use Rattle.std.specs.List.{Contains}
+use Rattle.std.specs.List.{All, Contains}
 use Rattle.std.proofs.lemmas.Bool.{cases_Bool, cases_lt, false≢true, false_from_ne_true}
 use Rattle.std.proofs.lemmas.List.{take_more, take_all, map_push}
-use Rattle.std.proofs.lemmas.List.Elements.{Contains-push_cases}
+use Rattle.std.proofs.lemmas.List.Elements.{All-nil, All-cons, Contains-push_cases}
 use Rattle.dns_names.specs.Labels.{IsName, IsWithin, IsBelow, wire_len}
 use Rattle.dns_names.specs.Order.{same_name}
 use Rattle.dns_names.specs.Reading.{relative_name}
@@ -18,7 +18,7 @@ use Rattle.grant_policy.specs.Isolated.{question}
 use Rattle.grant_policy.specs.Rules.{is_of, has, same_type, same_action, matches}
 use Rattle.grant_policy.specs.Scopes.{Covers, covers}
 use Rattle.grant_policy.proofs.ScopeLemmas.{same_name-Decides, covers-Decides, within_self, within_trans, within_cons}
-use Rattle.policy_tools.specs.Slices.{Touches, Matters, IsSpokenOf, AreKept, IsWithinSome, DecideSame, HasNames, Reaches}
+use Rattle.policy_tools.specs.Slices.{Touches, Matters, IsSpokenOf, AreKept, IsWithinSome, DecideSame, IsClosed, HasNames, Reaches}
 use Rattle.policy_tools.proofs.FreeNameLemmas.{octet_name, no_label, one_fit, one_full}
 use Rattle.policy_tools.proofs.RepresentativeLemmas.{last_label, top_name, within_longer}
 
@@ -32,7 +32,7 @@ within_root a ([], e) = sym e
 within_root a (label ∷ front, e) = absurd cc
 
 -- two names above a third are one above the other
-comparable : (name a b : Name') → IsWithin name a → IsWithin name b → IsWithin a b ⊎ IsWithin b a
+pub comparable : (name a b : Name') → IsWithin name a → IsWithin name b → IsWithin a b ⊎ IsWithin b a
 comparable [] a b wa wb = inl (subst (λ (x : Name'). IsWithin x b) (sym (within_root a wa)) wb)
 comparable (label ∷ name) a b wa wb = by (comparable name a b) (within_cons label name a wa) (within_cons label name b wb)
   where
@@ -186,3 +186,27 @@ same_decisions origins (rule ∷ rules) slice (inr (no', are)) name is within ca
 pub slice_same : {E : Type 0} (origins : List Name') (rules : List Rule) (r : Result (Vec (Bor Rule) Global) E) → IfOk r (λ slice. AreKept (Matters origins) rules (map (λ rule. rule.now) slice.items)) → IfOk r (λ slice. DecideSame origins rules (map (λ rule. rule.now) slice.items))
 slice_same origins rules (Ok slice) are = same_decisions origins rules (map (λ rule. rule.now) slice.items) are
 slice_same origins rules (Err e) are = tt
+
+-- ---- where no rule speaks
+
+nothing_kept : (origins : List Name') (rules : List Rule) → ((rule : Rule) → Contains rules rule → ¬ Matters origins rule) → AreKept (Matters origins) rules []
+nothing_kept origins [] none = refl
+nothing_kept origins (rule ∷ rules) none = inr (none rule (0, omega arith, refl), nothing_kept origins rules (λ r in'. none r (suc in'.0, omega (arith, in'.1), in'.2)))
+
+closed : (rules : List Rule) (origin : Name') → ¬ IsSpokenOf rules origin → IsClosed rules origin
+closed rules origin none name is within caller t a =
+    same_decisions (origin ∷ []) rules [] (nothing_kept (origin ∷ []) rules (λ rule in' m. none (rule, in', subst (Touches rule) (only m.0 m.1) m.2))) name is (origin, (0, omega arith, refl), within) caller t a
+  where
+    only : (o : Name') → Contains (origin ∷ []) o → o ≡ origin
+    only o (zero, lt, e) = sym e
+    only o (suc k, lt, e) = absurd (omega (arith, lt))
+
+kept_each : {X : Type 0} (Has Is : X → Type 0) → ((x : X) → Has x → Is x) → (xs kept : List X) → AreKept Has xs kept → All Is kept
+kept_each {X} Has Is so [] kept e = subst (All Is) (sym e) (All-nil Is)
+kept_each {X} Has Is so (x ∷ xs) kept (inl (h, (others, e, are))) = subst (All Is) (sym e) (All-cons Is x others (so x h) (kept_each Has Is so xs others are))
+kept_each {X} Has Is so (x ∷ xs) kept (inr (no', are)) = kept_each Has Is so xs kept are
+
+pub all_closed : {E : Type 0} (rules : List Rule) (origins : List Name') (r : Result (Vec (Bor Name') Global) E) → IfOk r (λ unspoken. AreKept (λ origin. ¬ IsSpokenOf rules origin) origins (map (λ origin. origin.now) unspoken.items)) → IfOk r (λ unspoken. All (IsClosed rules) (map (λ origin. origin.now) unspoken.items))
+all_closed rules origins (Ok unspoken) are =
+    kept_each (λ (origin : Name'). ¬ IsSpokenOf rules origin) (IsClosed rules) (λ origin none. closed rules origin none) origins (map (λ (origin : Bor Name'). origin.now) unspoken.items) are
+all_closed rules origins (Err e) are = tt

@@ -1,5 +1,5 @@
 -- Which rules of a policy can matter in some zones, and in which zones no rule does.
-use Rattle.std.specs.Prelude.{◌≡◌, ◌⊎◌, ℕ, ◌≤◌, List, [], ◌∷◌}
+use Rattle.std.specs.Prelude.{◌≡◌, ◌⊎◌, ℕ, ◌≤◌, List, [], ◌∷◌, None}
 use Rattle.std.specs.List.{Contains}
 use Rattle.dns_names.specs.Labels.{IsName, IsWithin, wire_len}
 use Rattle.dns_data.specs.declared.record_type.RecordType.{RecordType}
@@ -7,7 +7,7 @@ use Rattle.grant_policy.specs.declared.action.Action.{Action}
 use Rattle.grant_policy.specs.declared.rule.Rule.{Rule}
 use Rattle.grant_policy.specs.declared.scope.Scope.{Scope}
 use Rattle.grant_policy.specs.declared.scope.Scope.TheVariants.{Name, Subtree, Below}
-use Rattle.grant_policy.specs.Decisions.{decision}
+use Rattle.grant_policy.specs.Decisions.{decision, denied}
 use Rattle.grant_policy.specs.Isolated.{question}
 use Rattle.grant_policy.specs.Scopes.{Covers}
 
@@ -40,6 +40,12 @@ abbrev pub DecideSame : List (List (List ℕ)) → List Rule → List Rule → T
 DecideSame origins rules others =
     (name : List (List ℕ)) → IsName name → IsWithinSome origins name → (caller : List ℕ) (t : RecordType) (a : Action)
     → decision (question caller name t a) rules ≡ decision (question caller name t a) others
+
+-- at all names within an origin the closing default decides, whoever asks
+abbrev pub IsClosed : List Rule → List (List ℕ) → Type 0
+IsClosed rules origin =
+    (name : List (List ℕ)) → IsName name → IsWithin name origin → (caller : List ℕ) (t : RecordType) (a : Action)
+    → decision (question caller name t a) rules ≡ denied None
 
 -- ---- by the name of a rule
 

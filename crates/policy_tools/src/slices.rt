@@ -1,8 +1,9 @@
 //! The rules that can matter in some zones, those that cannot, and the zones in which no rule does.
 
 ghost use Rattle.std.specs.Prelude.{◌≡◌, ◌↔◌, map, IfOk, IsTrue};
+ghost use Rattle.std.specs.List.{All};
 ghost use Rattle.dns_names.specs.Labels.{IsName};
-ghost use Rattle.policy_tools.specs.Slices.{Touches, Matters, IsSpokenOf, AreKept, DecideSame, HasNames, Reaches};
+ghost use Rattle.policy_tools.specs.Slices.{Touches, Matters, IsSpokenOf, AreKept, DecideSame, IsClosed, HasNames, Reaches};
 
 use crate::free_names::fits;
 use dns_names::Name;
@@ -140,7 +141,10 @@ pub fn unspoken_origins<'a>(
     policy: &Policy,
     origins: &'a [Name],
 ) -> Result<Vec<&'a Name>, AllocError>
-    ensures { IfOk result (λ unspoken. AreKept (λ origin. ¬ IsSpokenOf policy.now origin) origins.now (map (λ origin. origin.now) unspoken.items)) }
+    // Exactly those are kept within which no rule speaks of a name, in the order that they had.
+    ensures unspoken { IfOk result (λ unspoken. AreKept (λ origin. ¬ IsSpokenOf policy.now origin) origins.now (map (λ origin. origin.now) unspoken.items)) }
+    // The closing default decides there, whatever is asked.
+    ensures closed { IfOk result (λ unspoken. All (IsClosed policy.now) (map (λ origin. origin.now) unspoken.items)) }
 {
     unspoken_among(alloc, policy.rules(), origins)
 }
