@@ -1,5 +1,5 @@
 -- Which rules speak of names within an origin, and what the others do not decide there.
-use Rattle.std.proofs.Common.{◌≡◌, ◌≢◌, ◌↔◌, ◌⊎◌, inl, inr, ℕ, zero, suc, ◌+◌, ◌<◌, ◌≤◌, Bool, true, false, ◌&&◌, cond, List, [], ◌∷◌, ◌++◌, length, map, get_or, take, Option, Some, None, Result, Ok, Err, IfOk, Vec, Global, Bor, refl, sym, ap, ◌∙◌, subst, ⊎_elim, arith}
+use Rattle.std.proofs.Common.{◌≡◌, ◌≢◌, ◌↔◌, ◌⊎◌, inl, inr, ℕ, zero, suc, ◌+◌, ◌<◌, ◌≤◌, Bool, true, false, ◌&&◌, cond, List, [], ◌∷◌, ◌++◌, length, map, get_or, take, Result, Ok, Err, IfOk, Vec, Global, Bor, refl, sym, ap, ◌∙◌, subst, ⊎_elim, arith}
 use Rattle.std.specs.Prelude.{is_ok}
 use Rattle.std.specs.List.{All, Contains}
 use Rattle.std.proofs.lemmas.Bool.{cases_Bool, cases_lt, false≢true, false_from_ne_true}
@@ -8,8 +8,6 @@ use Rattle.std.proofs.lemmas.List.Elements.{All-nil, All-cons, Contains-push_cas
 use Rattle.dns_names.specs.Labels.{IsName, IsWithin, IsBelow, wire_len}
 use Rattle.dns_names.specs.Order.{same_name}
 use Rattle.dns_names.specs.Reading.{relative_name}
-use Rattle.dns_data.specs.declared.record_type.RecordType.{RecordType}
-use Rattle.grant_policy.specs.declared.action.Action.{Action}
 use Rattle.grant_policy.specs.declared.rule.Rule.{Rule}
 use Rattle.grant_policy.specs.declared.scope.Scope.{Scope}
 use Rattle.grant_policy.specs.declared.scope.Scope.TheVariants.{Name, Subtree, Below}
@@ -18,9 +16,9 @@ use Rattle.grant_policy.specs.Isolated.{question}
 use Rattle.grant_policy.specs.Rules.{is_of, has, same_type, same_action, matches}
 use Rattle.grant_policy.specs.Scopes.{Covers, covers}
 use Rattle.grant_policy.proofs.ScopeLemmas.{same_name-Decides, covers-Decides, within_self, within_trans, within_cons}
-use Rattle.policy_tools.specs.Slices.{Touches, Matters, IsSpokenOf, AreKept, IsWithinSome, DecideSame, IsClosed, HasNames, Reaches}
+use Rattle.policy_tools.specs.Slices.{Touches, Matters, IsSpokenOf, AreKept, DecideSame, IsClosed, HasNames, Reaches}
 use Rattle.policy_tools.proofs.FreeNameLemmas.{octet_name, no_label, one_fit, one_full}
-use Rattle.policy_tools.proofs.RepresentativeLemmas.{last_label, top_name, within_longer}
+use Rattle.policy_tools.proofs.RepresentativeLemmas.{last_label, top_name}
 
 abbrev Name' : Type 0
 Name' = List (List ℕ)

@@ -1,4 +1,3 @@
-use Rattle.policy_tools.specs.Slices.{HasNames}
 use Rattle.policy_tools.proofs.SliceLemmas.{room_exactly}
 use Rattle.policy_tools.proofs.slices.has_names.Goals as goal
 

@@ -1,8 +1,6 @@
-use Rattle.std.proofs.Common.{List, ℕ, map}
 use Rattle.std.proofs.lemmas.Bool.{both_ways}
-use Rattle.grant_policy.specs.declared.rule.Rule.{Rule}
-use Rattle.policy_tools.specs.Slices.{Matters, IsSpokenOf}
-use Rattle.policy_tools.proofs.SliceLemmas.{kept_yes, kept_no, kept_all}
+use Rattle.policy_tools.specs.Slices.{Matters}
+use Rattle.policy_tools.proofs.SliceLemmas.{kept_yes, kept_no}
 use Rattle.policy_tools.proofs.slices.slice_among.Goals as goal
 use Rattle.policy_tools.proofs.slices.slice_among.Goals.{then-branch+in_ok-push, else-branch}
 
