@@ -17,3 +17,4 @@ mod WordLaws
 mod ReadingLemmas
 mod ExpectationLaws
 mod SliceLemmas
+mod ReaderLemmas

@@ -16,3 +16,4 @@ pub mod ExpectationFaults
 pub mod ExpectationLines
 pub mod ExpectationReading
 pub mod Slices
+pub mod Readers

@@ -44,7 +44,11 @@ pub(crate) fn excess_by(
 }
 
 /// Names that represent all names of a limit.
-fn names_of(alloc: Global, rules: &[Rule], limit: &Limit) -> Result<Vec<Name>, AllocError>
+pub(crate) fn names_of(
+    alloc: Global,
+    rules: &[Rule],
+    limit: &Limit,
+) -> Result<Vec<Name>, AllocError>
     requires { length rules.now ≤ 1024 }
     ensures { IfOk result (λ names. RepresentLimit rules.now limit.now names.items) }
 {
