@@ -31,6 +31,7 @@ module _ {T U H K P : Type 0} (w : Parties U K P) (table : T → U) (listener : 
     back = is.back;
     served = is.served;
     waited = is.waited;
+    tried = is.tried;
     aged = is.aged;
     run = is.run;
     keeps = is.keeps;

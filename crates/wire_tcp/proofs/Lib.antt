@@ -1,5 +1,6 @@
 pub mod PatienceLemmas
 pub mod WaitLemmas
+pub mod TryLemmas
 pub mod AgeLemmas
 pub mod ServedLemmas
 pub mod SendLemmas

@@ -1,5 +1,5 @@
 -- One wait, and the waits of a connection as rounds.
-use Rattle.std.proofs.Common.{◌≡◌, ◌⊎◌, ◌<◌, inl, inr, ◌∙◌, ℕ, zero, suc, Bool, true, false, List, [], ◌∷◌, ◌++◌, length, Option, option_map, refl, ap, subst, arith}
+use Rattle.std.proofs.Common.{◌≡◌, ◌⊎◌, ◌<◌, inl, inr, ◌∙◌, ℕ, zero, suc, Bool, true, false, List, [], ◌∷◌, ◌++◌, length, Option, option_map, is_ok, refl, ap, subst, arith}
 use Rattle.std.specs.Prelude.{◌+◌, ◌-◌, ◌≤◌, Some, None, IsSomeAnd, unwrap_or, ⊤}
 use Rattle.std.specs.List.{flat_map}
 use Rattle.std.specs.Duration.{as_nanos}
@@ -18,15 +18,15 @@ pub paced_once : (pace : Pace) (r now t : Running) (w : Wait) (a b c d : Option 
     → deadline_of now ≡ during (option_map as_nanos pace.patience) r.awaited (option_map as_nanos r.left) w.call
     → IsWithin (option_map as_nanos now.left) w.limit
     → IsInTime (option_map as_nanos pace.age.longest) (option_map as_nanos pace.age.begun) now.awaited w.begun w.limit
-    → deadline_of t ≡ after (option_map as_nanos pace.patience) now.awaited (option_map as_nanos now.left) w.done (spent_in w)
-    → Follows a b (clock w.begun ∷ []) → Follows b c (made w.call w.limit w.done ∷ []) → Follows c d (clock w.ended ∷ [])
+    → deadline_of t ≡ after (option_map as_nanos pace.patience) now.awaited (option_map as_nanos now.left) (is_ok w.outcome) (spent_in w)
+    → Follows a b (clock w.begun ∷ []) → Follows b c (made w.call w.limit w.outcome ∷ []) → Follows c d (clock w.ended ∷ [])
     → ArePaced pace r t a d
 paced_once pace r now t w a b c d is within young goes before call then =
     let patience = option_map as_nanos pace.patience in (
       w ∷ [],
-      follows_join a c d (clock w.begun ∷ made w.call w.limit w.done ∷ []) (clock w.ended ∷ []) (follows_join a b c (clock w.begun ∷ []) (made w.call w.limit w.done ∷ []) before call) then,
+      follows_join a c d (clock w.begun ∷ made w.call w.limit w.outcome ∷ []) (clock w.ended ∷ []) (follows_join a b c (clock w.begun ∷ []) (made w.call w.limit w.outcome ∷ []) before call) then,
       subst (λ (x : Deadline). IsWithin x.left w.limit × IsInTime (option_map as_nanos pace.age.longest) (option_map as_nanos pace.age.begun) x.awaited w.begun w.limit
-          × (deadline_of t ≡ after patience x.awaited x.left w.done (spent_in w))) is (within, young, goes),
+          × (deadline_of t ≡ after patience x.awaited x.left (is_ok w.outcome) (spent_in w))) is (within, young, goes),
     )
 
 -- ---- rounds
@@ -103,7 +103,7 @@ module _ (limits : Limits) (connected : Option ℕ) (left : Option ℕ) (w : Wai
   begun_all : (f : From Rest limits.patience) → w ∷ waits ≡ waits_of (begun_by f.one) ++ flat_map waits_of f.later
   begun_all f = ap (λ (l : List Wait). w ∷ l) (f.all ∙ ap (λ (l : List Wait). (l ++ (f.one.rest ++ f.one.taking)) ++ flat_map waits_of f.later) f.goes.0)
 
-  begun_open : (time : Option ℕ) → w.call ≡ reading → w.done ≡ true → IsWithin time w.limit → (f : From Rest limits.patience) → IsOpen time limits.patience limits.patience (begun_by f.one)
+  begun_open : (time : Option ℕ) → w.call ≡ reading → is_ok w.outcome ≡ true → IsWithin time w.limit → (f : From Rest limits.patience) → IsOpen time limits.patience limits.patience (begun_by f.one)
   begun_open time call done within f = record {
     begun = true;
     begins = inl (done, refl, refl);
@@ -113,7 +113,7 @@ module _ (limits : Limits) (connected : Option ℕ) (left : Option ℕ) (w : Wai
     to_take = f.goes.2;
   }
 
-  begun_first : w.call ≡ reading → w.done ≡ true → IsWithin left w.limit → From Rest limits.patience → To First
+  begun_first : w.call ≡ reading → is_ok w.outcome ≡ true → IsWithin left w.limit → From Rest limits.patience → To First
   begun_first call done within f = record {
     one = begun_by f.one;
     later = f.later;
@@ -126,7 +126,7 @@ module _ (limits : Limits) (connected : Option ℕ) (left : Option ℕ) (w : Wai
   abbrev silent_by : Round → Round
   silent_by r = record { begins = w ∷ r.begins; rest = r.rest; taking = r.taking }
 
-  silent_open : (time : Option ℕ) (r : Round) → w.call ≡ reading → w.done ≡ false → IsWithin time w.limit → IsOpen (less time (spent_in w)) limits.patience limits.patience r
+  silent_open : (time : Option ℕ) (r : Round) → w.call ≡ reading → is_ok w.outcome ≡ false → IsWithin time w.limit → IsOpen (less time (spent_in w)) limits.patience limits.patience r
       → IsOpen time limits.patience limits.patience (silent_by r)
   silent_open time r call done within is = record {
     begun = is.begun;
@@ -137,7 +137,7 @@ module _ (limits : Limits) (connected : Option ℕ) (left : Option ℕ) (w : Wai
     to_take = is.to_take;
   }
 
-  silent_first : w.call ≡ reading → w.done ≡ false → IsWithin left w.limit → From First (less left (spent_in w)) → To First
+  silent_first : w.call ≡ reading → is_ok w.outcome ≡ false → IsWithin left w.limit → From First (less left (spent_in w)) → To First
   silent_first call done within f = record {
     one = silent_by f.one;
     later = f.later;
@@ -156,7 +156,7 @@ module _ (limits : Limits) (connected : Option ℕ) (left : Option ℕ) (w : Wai
     some : 0 < length one.begins
     follow : AreLater limits connected one later
 
-  begun_next : (time : Option ℕ) → w.call ≡ reading → w.done ≡ true → IsWithin time w.limit → IsWithin (less limits.longest (between connected w.begun)) w.limit → From Rest limits.patience → Another time
+  begun_next : (time : Option ℕ) → w.call ≡ reading → is_ok w.outcome ≡ true → IsWithin time w.limit → IsWithin (less limits.longest (between connected w.begun)) w.limit → From Rest limits.patience → Another time
   begun_next time call done within young f = record {
     one = begun_by f.one;
     later = f.later;
@@ -167,7 +167,7 @@ module _ (limits : Limits) (connected : Option ℕ) (left : Option ℕ) (w : Wai
     follow = later_of limits connected f.one (begun_by f.one) f.later refl f.follow;
   }
 
-  silent_next : (time : Option ℕ) → w.call ≡ reading → w.done ≡ false → IsWithin time w.limit → IsWithin (less limits.longest (between connected w.begun)) w.limit → From Next (less time (spent_in w)) → Another time
+  silent_next : (time : Option ℕ) → w.call ≡ reading → is_ok w.outcome ≡ false → IsWithin time w.limit → IsWithin (less limits.longest (between connected w.begun)) w.limit → From Next (less time (spent_in w)) → Another time
   silent_next time call done within young f = record {
     one = silent_by f.one;
     later = f.later;
@@ -262,7 +262,7 @@ module _ (limits : Limits) (connected : Option ℕ) (left : Option ℕ) (w : Wai
   abbrev Then : Awaited → Call → Bool → Deadline
   Then awaited call done = after limits.patience (Now awaited call).awaited (Now awaited call).left done (spent_in w)
 
-  step : (awaited : Awaited) (call : Call) (done : Bool) → w.call ≡ call → w.done ≡ done → IsWithin (Now awaited call).left w.limit
+  step : (awaited : Awaited) (call : Call) (done : Bool) → w.call ≡ call → is_ok w.outcome ≡ done → IsWithin (Now awaited call).left w.limit
       → IsInTime limits.longest connected (Now awaited call).awaited w.begun w.limit → From (Then awaited call done).awaited (Then awaited call done).left → To awaited
   step First reading true call done within young f = begun_first call done within f
   step First reading false call done within young f = silent_first call done within f
@@ -281,8 +281,8 @@ from_here : (limits : Limits) (connected : Option ℕ) (d e : Deadline) (waits :
 from_here limits connected d e [] p = nothing limits connected d.awaited d.left
 from_here limits connected d e (w ∷ waits) p =
     let now = during limits.patience d.awaited d.left w.call in
-    let then = after limits.patience now.awaited now.left w.done (spent_in w) in
-    step limits connected d.left w waits d.awaited w.call w.done refl refl p.0 p.1 (from_here limits connected then e waits p.2)
+    let then = after limits.patience now.awaited now.left (is_ok w.outcome) (spent_in w) in
+    step limits connected d.left w waits d.awaited w.call (is_ok w.outcome) refl refl p.0 p.1 (from_here limits connected then e waits p.2)
 
 -- the waits of a peer that had just connected
 pub are_waits : (pace : Pace) (r t : Running) (a b c : Option (List Noted)) → r.awaited ≡ First → r.left ≡ pace.patience → Follows a b (clock (option_map as_nanos pace.age.begun) ∷ []) → ArePaced pace r t b c

@@ -22,6 +22,7 @@ use Rattle.office_model.specs.Tables.{Keeps, Kept}
 use Rattle.wire_tcp.specs.Causes.{trace_of}
 use Rattle.wire_tcp.specs.Limits.{Limits}
 use Rattle.wire_tcp.specs.Waits.{Times, AreWaits}
+use Rattle.wire_tcp.specs.Tries.{AreTried}
 use Rattle.wire_tcp.specs.Ages.{AreAges}
 
 -- the fault's published number
@@ -72,8 +73,9 @@ standing_at w m = standing m.kept (w.failures m.table)
 
 -- A connection between two moments. Its peer was the next that the listener gave, and was handed back to it with how it ended. The turns
 -- are the requests that this peer sent, and what was written to it are their responses, each before more is read. They are answered by the
--- rules and the state of the moment before, and lead to that of the moment after. The peer was waited for within the limits, and was asked
--- for another request only while its connection was young, and else its connection ended.
+-- rules and the state of the moment before, and lead to that of the moment after. The peer was waited for within the limits, a read or a
+-- write that was cut short was begun again, and one that failed ended the connection. It was asked for another request only while its
+-- connection was young, and else its connection ended.
 pub record IsVisit {T H P : Type 0} (w : Parties T H P) (rules : List Rule) (limits : Limits) (v : Visit) (before after : Moment T H) : Type 0 where
   pub came : P
   pub went : P
@@ -82,6 +84,7 @@ pub record IsVisit {T H P : Type 0} (w : Parties T H P) (rules : List Rule) (lim
   pub back : w.ends between went v.ended after.listener
   pub served : IsStreamServed v.turns v.ended (w.flow came) (w.flow went)
   pub waited : AreWaits limits (w.times came).waits (w.times went).waits
+  pub tried : AreTried v.ended (w.times came).waits (w.times went).waits
   pub aged : AreAges limits.longest v.turns v.ended (w.times came).ages (w.times went).ages
   pub run : Run rules (standing_at w before) v.turns (standing_at w after)
   pub keeps : Keeps (w.holds after.table) (w.leaves after.table) after.kept

@@ -1,5 +1,5 @@
 -- The deadline that runs while a peer is waited for.
-use Rattle.std.specs.Prelude.{◌≡◌, ℕ, Bool, true, List, [], ◌∷◌, Option, option_map, ⊤}
+use Rattle.std.specs.Prelude.{◌≡◌, ℕ, Bool, true, List, [], ◌∷◌, Option, option_map, is_ok, ⊤}
 use Rattle.std.specs.List.{flat_map}
 use Rattle.std.specs.Duration.{as_nanos}
 use Rattle.std.proofs.Common.{◌++◌, refl, sym, subst}
@@ -51,7 +51,7 @@ Leads limits connected d [] e = e ≡ d
 Leads limits connected d (w ∷ waits) e =
     let now = during limits.patience d.awaited d.left w.call in
     IsWithin now.left w.limit × IsInTime limits.longest connected now.awaited w.begun w.limit
-    × Leads limits connected (after limits.patience now.awaited now.left w.done (spent_in w)) waits e
+    × Leads limits connected (after limits.patience now.awaited now.left (is_ok w.outcome) (spent_in w)) waits e
 
 -- such waits, and nothing else, were noted between
 abbrev pub ArePaced : Pace → Running → Running → Option (List Noted) → Option (List Noted) → Type 0
@@ -67,7 +67,7 @@ leads_join : (limits : Limits) (connected : Option ℕ) (d e f : Deadline) (xs y
 leads_join limits connected d e f [] ys p q = subst (λ (x : Deadline). Leads limits connected x ys f) p q
 leads_join limits connected d e f (w ∷ xs) ys p q =
     let now = during limits.patience d.awaited d.left w.call in
-    (p.0, p.1, leads_join limits connected (after limits.patience now.awaited now.left w.done (spent_in w)) e f xs ys p.2 q)
+    (p.0, p.1, leads_join limits connected (after limits.patience now.awaited now.left (is_ok w.outcome) (spent_in w)) e f xs ys p.2 q)
 
 pub paced_join : (pace : Pace) (r s t : Running) (a b c : Option (List Noted)) → ArePaced pace r s a b → ArePaced pace s t b c → ArePaced pace r t a c
 paced_join pace r s t a b c p q = (

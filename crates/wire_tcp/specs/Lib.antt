@@ -1,6 +1,8 @@
 pub mod Limits
 pub mod Waits
 pub mod Deadlines
+pub mod Tries
+pub mod Trials
 pub mod Ages
 pub mod Lingering
 pub mod Causes

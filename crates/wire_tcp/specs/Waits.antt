@@ -1,6 +1,9 @@
 -- For how long a peer was waited for, by the readings of a clock.
-use Rattle.std.specs.Prelude.{◌≡◌, ◌⊎◌, ℕ, ◌+◌, ◌-◌, ◌<◌, ◌≤◌, Bool, true, false, List, [], ◌∷◌, ◌++◌, length, Option, Some, None, IsSomeAnd, unwrap_or, ⊤}
+use Rattle.std.specs.Prelude.{◌≡◌, ◌⊎◌, ℕ, ◌+◌, ◌-◌, ◌<◌, ◌≤◌, Bool, true, false, List, [], ◌∷◌, ◌++◌, length, Option, Some, None, Result, Ok, Err, is_ok, IsSomeAnd, unwrap_or, ⊤}
 use Rattle.std.specs.List.{flat_map, AllByRecursion}
+use Rattle.std.specs.IoError.{error_kind}
+use Rattle.std.specs.declared.io.Error.{Error}
+use Rattle.std.specs.declared.io.ErrorKind.{ErrorKind}
 use Rattle.office_wire.specs.Order.{Follows}
 use Rattle.wire_tcp.specs.Limits.{Limits, IsWithin}
 
@@ -8,11 +11,16 @@ pub data Call : Type 0 where
   reading : Call
   writing : Call
 
+-- the number of octets that a read or a write moved, or the kind of its error
+abbrev pub outcome : Result ℕ Error → Result ℕ ErrorKind
+outcome (Ok n) = Ok n
+outcome (Err e) = Err (error_kind e)
+
 -- What is noted of a connection, in order: the clock was read, and told so many nanoseconds since some start, or could not be read; and a
--- read or a write was made, which was allowed to wait so long, or without limit, and which was done or failed.
+-- read or a write was made, which was allowed to wait so long, or without limit, with this outcome.
 pub data Noted : Type 0 where
   clock : Option ℕ → Noted
-  made : Call → Option ℕ → Bool → Noted
+  made : Call → Option ℕ → Result ℕ ErrorKind → Noted
 
 -- What is known of time at a peer: what was noted, and the readings by which its age was told, each where it is known.
 pub record Times : Type 0 where
@@ -26,11 +34,11 @@ pub record Wait : Type 0 where
   pub call : Call
   pub begun : Option ℕ
   pub limit : Option ℕ
-  pub done : Bool
+  pub outcome : Result ℕ ErrorKind
   pub ended : Option ℕ
 
 abbrev pub noted : Wait → List Noted
-noted w = clock w.begun ∷ made w.call w.limit w.done ∷ clock w.ended ∷ []
+noted w = clock w.begun ∷ made w.call w.limit w.outcome ∷ clock w.ended ∷ []
 
 -- The time between two readings, where both could be had. A clock that went back tells that there was none.
 abbrev pub between : Option ℕ → Option ℕ → Option ℕ
@@ -76,7 +84,7 @@ waits_of r = r.begins ++ (r.rest ++ r.taking)
 -- Reads until a request begins, and whether it has begun: with the last of them, and with none before.
 abbrev pub Begins : List Wait → Bool → Type 0
 Begins [] begun = begun ≡ false
-Begins (w ∷ waits) begun = ((w.done ≡ true) × (waits ≡ []) × (begun ≡ true)) ⊎ ((w.done ≡ false) × Begins waits begun)
+Begins (w ∷ waits) begun = ((is_ok w.outcome ≡ true) × (waits ≡ []) × (begun ≡ true)) ⊎ ((is_ok w.outcome ≡ false) × Begins waits begun)
 
 abbrev pub AreAll : Call → List Wait → Type 0
 AreAll call waits = AllByRecursion (λ w. w.call ≡ call) waits

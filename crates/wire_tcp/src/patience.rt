@@ -8,7 +8,9 @@ ghost use Rattle.office_wire.specs.Order.{Follows, ReadsOnce, WritesOnce};
 ghost use Rattle.std.proofs.Common.{◌∙◌, refl, subst};
 ghost use Rattle.wire_tcp.specs.declared.pace.Awaited.TheVariants.{First};
 ghost use Rattle.wire_tcp.specs.declared.pace.Pace.{Pace as PaceOf};
-ghost use Rattle.wire_tcp.specs.Waits.{clock as reading_of};
+ghost use Rattle.wire_tcp.specs.Waits.{clock as reading_of, reading, writing};
+ghost use Rattle.wire_tcp.specs.Tries.{IsOnce, IsTry};
+ghost use Rattle.wire_tcp.specs.Trials.{AreTriedSince, tried_none, tried_join};
 ghost use Rattle.wire_tcp.specs.Deadlines.{ArePaced, paced_none, paced_join};
 
 use crate::pace::{Age, Awaited, Pace, Running, between};
@@ -68,6 +70,8 @@ impl<'a, P: Peer, C: Clock, L: Ledger> PatientStream<'a, P, C, L> {
         ensures longest { result.pace.age.longest ≡ longest }
         ensures first { result.running.awaited ≡ First }
         ensures left { result.running.left ≡ patience }
+        ensures reads { result.reads.amount ≡ 0 }
+        ensures writes { result.writes.amount ≡ 0 }
     {
         let mut peer = peer;
         let begun = peer.now(clock);
@@ -103,6 +107,7 @@ impl<'a, P: Peer, C: Clock, L: Ledger> PatientStream<'a, P, C, L> {
         ensures bound { ReadsAtMost result buffer.new }
         ensures read { ReadsOnce (P.flow self.old.peer) (P.flow self.new.peer) result buffer.new }
         ensures paced { ArePaced self.old.pace self.old.running self.new.running (P.times self.old.peer).waits (P.times self.new.peer).waits }
+        ensures once { IsOnce reading result (P.times self.old.peer).waits (P.times self.new.peer).waits }
         ensures ages { (P.times self.new.peer).ages ≡ (P.times self.old.peer).ages }
         ensures pace { self.new.pace ≡ self.old.pace }
         ensures reads { self.new.reads ≡ self.old.reads }
@@ -123,6 +128,7 @@ impl<'a, P: Peer, C: Clock, L: Ledger> PatientStream<'a, P, C, L> {
         ensures bound { WritesAtMost result octets.now }
         ensures written { WritesOnce (P.flow self.old.peer) (P.flow self.new.peer) result octets.now }
         ensures paced { ArePaced self.old.pace self.old.running self.new.running (P.times self.old.peer).waits (P.times self.new.peer).waits }
+        ensures once { IsOnce writing result (P.times self.old.peer).waits (P.times self.new.peer).waits }
         ensures ages { (P.times self.new.peer).ages ≡ (P.times self.old.peer).ages }
         ensures pace { self.new.pace ≡ self.old.pace }
         ensures reads { self.new.reads ≡ self.old.reads }
@@ -143,6 +149,7 @@ impl<'a, P: Peer, C: Clock, L: Ledger> PatientStream<'a, P, C, L> {
         ensures bound { ReadsAtMost result buffer.new }
         ensures read { ReadsOnce (P.flow self.old.peer) (P.flow self.new.peer) result buffer.new }
         ensures paced { ArePaced self.old.pace self.old.running self.new.running (P.times self.old.peer).waits (P.times self.new.peer).waits }
+        ensures tried { IsTry reading result (P.times self.old.peer).waits (P.times self.new.peer).waits }
         ensures ages { (P.times self.new.peer).ages ≡ (P.times self.old.peer).ages }
         ensures pace { self.new.pace ≡ self.old.pace }
         ensures reads { self.new.reads ≡ self.old.reads }
@@ -163,6 +170,7 @@ impl<'a, P: Peer, C: Clock, L: Ledger> PatientStream<'a, P, C, L> {
         ensures bound { WritesAtMost result octets.now }
         ensures written { WritesOnce (P.flow self.old.peer) (P.flow self.new.peer) result octets.now }
         ensures paced { ArePaced self.old.pace self.old.running self.new.running (P.times self.old.peer).waits (P.times self.new.peer).waits }
+        ensures tried { IsTry writing result (P.times self.old.peer).waits (P.times self.new.peer).waits }
         ensures ages { (P.times self.new.peer).ages ≡ (P.times self.old.peer).ages }
         ensures pace { self.new.pace ≡ self.old.pace }
         ensures reads { self.new.reads ≡ self.old.reads }
@@ -185,7 +193,8 @@ impl<P: Peer, C: Clock, L: Ledger> Stream for PatientStream<'_, P, C, L> {
 
     ghost failed_writes = { λ s. s.writes.amount };
 
-    ghost keeps = { λ s t. (t.pace ≡ s.pace) × ArePaced s.pace s.running t.running (P.times s.peer).waits (P.times t.peer).waits × ((P.times t.peer).ages ≡ (P.times s.peer).ages) };
+    ghost keeps = { λ s t. (t.pace ≡ s.pace) × ArePaced s.pace s.running t.running (P.times s.peer).waits (P.times t.peer).waits × ((P.times t.peer).ages ≡ (P.times s.peer).ages)
+        × AreTriedSince s.reads.amount t.reads.amount s.writes.amount t.writes.amount (P.times s.peer).waits (P.times t.peer).waits };
 
     fn read_some(&mut self, buffer: &mut [u8]) -> Result<usize, DeviceFailed> {
         match self.read_again(buffer) {
@@ -212,12 +221,14 @@ impl<P: Peer, C: Clock, L: Ledger> Stream for PatientStream<'_, P, C, L> {
         }
     }
 
-    ghost same = { λ s. (refl, paced_none s.pace s.running (P.times s.peer).waits, refl) };
+    ghost same = { λ s. (refl, paced_none s.pace s.running (P.times s.peer).waits, refl, tried_none s.reads.amount s.writes.amount (P.times s.peer).waits) };
 
     ghost joins = { λ a b c p q. (
       q.0 ∙ p.0,
       paced_join a.pace a.running b.running c.running (P.times a.peer).waits (P.times b.peer).waits (P.times c.peer).waits p.1
           (subst (λ (pace : PaceOf). ArePaced pace b.running c.running (P.times b.peer).waits (P.times c.peer).waits) p.0 q.1),
       q.2 ∙ p.2,
+      tried_join a.reads.amount b.reads.amount c.reads.amount a.writes.amount b.writes.amount c.writes.amount
+          (P.times a.peer).waits (P.times b.peer).waits (P.times c.peer).waits p.3 q.3,
     ) };
 }

@@ -1,10 +1,10 @@
 //! The peers of connections.
 
-ghost use Rattle.std.specs.Prelude.{◌≡◌, ◌<◌, ℕ, List, [], ◌∷◌, Option, None, is_ok, option_map, length};
+ghost use Rattle.std.specs.Prelude.{◌≡◌, ◌<◌, ℕ, List, [], ◌∷◌, Option, None, option_map, length};
 ghost use Rattle.std.specs.Duration.{as_nanos};
 ghost use Rattle.std.specs.Io.{ReadsAtMost, WritesAtMost};
 ghost use Rattle.office_wire.specs.Order.{Flow as FlowOf, Follows, ReadsOnce, WritesOnce, read_by, written_by};
-ghost use Rattle.wire_tcp.specs.Waits.{Times as TimesOf, clock as reading_of, made, reading, writing};
+ghost use Rattle.wire_tcp.specs.Waits.{Times as TimesOf, clock as reading_of, made, outcome, reading, writing};
 
 use std::io::{self, Read, Write};
 use std::net::TcpStream;
@@ -44,7 +44,7 @@ pub trait Peer {
         ensures bound { ReadsAtMost result buffer.new }
         ensures read { ReadsOnce (flow self.old) (flow self.new) result buffer.new }
         ensures once { Follows (flow self.old).events (flow self.new).events (read_by result buffer.new ∷ []) }
-        ensures limited { Follows (times self.old).waits (times self.new).waits (made reading (option_map as_nanos limit) (is_ok result) ∷ []) }
+        ensures limited { Follows (times self.old).waits (times self.new).waits (made reading (option_map as_nanos limit) (outcome result) ∷ []) }
         ensures ages { (times self.new).ages ≡ (times self.old).ages };
 
     /// Writes once, a prefix of a slice that is not empty, and answers how many octets were taken.
@@ -53,7 +53,7 @@ pub trait Peer {
         ensures bound { WritesAtMost result octets.now }
         ensures written { WritesOnce (flow self.old) (flow self.new) result octets.now }
         ensures once { Follows (flow self.old).events (flow self.new).events (written_by result octets.now ∷ []) }
-        ensures limited { Follows (times self.old).waits (times self.new).waits (made writing (option_map as_nanos limit) (is_ok result) ∷ []) }
+        ensures limited { Follows (times self.old).waits (times self.new).waits (made writing (option_map as_nanos limit) (outcome result) ∷ []) }
         ensures ages { (times self.new).ages ≡ (times self.old).ages };
 
     /// Hands out what tells the age of the connection.

@@ -12,6 +12,7 @@ ghost use Rattle.office_wire.specs.declared.serve_fault.ServeFault.{ServeFault a
 ghost use Rattle.cli_core.specs.Replies.{IsSent};
 ghost use Rattle.wire_tcp.specs.Limits.{limits_in};
 ghost use Rattle.wire_tcp.specs.Waits.{AreWaits};
+ghost use Rattle.wire_tcp.specs.Tries.{AreTried};
 ghost use Rattle.wire_tcp.specs.Ages.{AreAges};
 ghost use Rattle.wire_tcp.specs.Connections.{connection_line, ended_line, fault_of, AreReported, AreServedFrom};
 
@@ -107,6 +108,7 @@ impl<C: Clock, D> Connections<'_, C, D> {
             × ((start : Option (List (Option ℕ))) → Follows start Q.before (Q.begun ∷ [])
             → AreAges (option_map as_nanos self.now.longest) turns result.1.ended start (P.times result.0).ages) }
         ensures waited { AreWaits (limits_in self.now.patience self.now.longest) (P.times peer).waits (P.times result.0).waits }
+        ensures tried { AreTried result.1.ended (P.times peer).waits (P.times result.0).waits }
         ensures rules { rules_of responder.new ≡ rules_of responder.old }
         ensures honest { T.is_honest table.new → T.is_honest table.old }
     {
@@ -146,6 +148,7 @@ impl<C: Clock, D> Connections<'_, C, D> {
             × AreNoted (servfails turns) result.1.servfails × IsStreamServed turns result.1.ended (P.flow peer) (P.flow result.0)
             × AreAges (option_map as_nanos self.now.longest) turns result.1.ended (P.times peer).ages (P.times result.0).ages }
         ensures waited { AreWaits (limits_in self.now.patience self.now.longest) (P.times peer).waits (P.times result.0).waits }
+        ensures tried { AreTried result.1.ended (P.times peer).waits (P.times result.0).waits }
         ensures rules { rules_of responder.new ≡ rules_of responder.old }
         ensures honest { T.is_honest table.new → T.is_honest table.old }
     {

@@ -1,5 +1,6 @@
 use Rattle.std.proofs.Common.{◌≡◌, ◌<◌, length}
 use Rattle.wire_tcp.specs.Deadlines.{ArePaced}
+use Rattle.wire_tcp.specs.Tries.{AreCuts}
 use Rattle.wire_tcp.proofs.PatienceLemmas.{IdleReads}
 use Rattle.wire_tcp.proofs.patience.PatientStream.read_again.Given as goal
 
@@ -7,6 +8,7 @@ abbrev pub invariant-cut : goal.invariant-cut
 invariant-cut g l = record {
   idle : IdleReads (g.P.Peer.flow l.fn.self.peer) (g.P.Peer.flow l.self.peer);
   paced : ArePaced l.fn.self.pace l.fn.self.running l.self.running (g.P.Peer.times l.fn.self.peer).waits (g.P.Peer.times l.self.peer).waits;
+  cuts : AreCuts l.counter (g.P.Peer.times l.fn.self.peer).waits (g.P.Peer.times l.self.peer).waits;
   ages : (g.P.Peer.times l.self.peer).ages ≡ (g.P.Peer.times l.fn.self.peer).ages;
   room : 0 < length l.buffer;
   pace : l.self.pace ≡ l.fn.self.pace;

@@ -27,7 +27,7 @@ accepted-preserved g c = record {
         p.0 ++ v ∷ [],
         a.1,
         a.2,
-        visits_more _ _ _ p.0 v _ _ _ p.3 (record { came = c.in-Ok.peer; went = c.serve_peer-peer.result.0; between = c.accept.new.self; given = c.in-Ok.ensures.given; back = c.end.ensures.given_back; served = a.5; waited = c.serve_peer-peer.ensures.waited; aged = a.6; run = rw c.accepted.invariant.rules at a.3; keeps = a.2.0; store = c.store_fault.ensures }),
+        visits_more _ _ _ p.0 v _ _ _ p.3 (record { came = c.in-Ok.peer; went = c.serve_peer-peer.result.0; between = c.accept.new.self; given = c.in-Ok.ensures.given; back = c.end.ensures.given_back; served = a.5; waited = c.serve_peer-peer.ensures.waited; tried = c.serve_peer-peer.ensures.tried; aged = a.6; run = rw c.accepted.invariant.rules at a.3; keeps = a.2.0; store = c.store_fault.ensures }),
         one_more p.0 v c.accepted.counter p.4,
         told_visit p.0 v _ _ _ p.5 c.in_ok-tell_ended.ensures.0,
         traced_more p.0 v _ _ _ _ _ _ p.6 traced,
@@ -49,7 +49,7 @@ returns-in_err-tell_ended-clause-served g c = λ honest s held.
     let v : Visit = record { turns = a.0; ended = c.serve_peer-peer.result.1.ended; store = c.store_fault.result } in
     let traced = traced_once v c.serve_peer-peer.result.1.servfails _ _ _ _ _ a.4 c.tell_servfails.ensures in
     let visits = p.0 ++ v ∷ [] in
-    let all = visits_more _ _ _ p.0 v _ _ _ p.3 (record { came = c.in-Ok.peer; went = c.serve_peer-peer.result.0; between = c.accept.new.self; given = c.in-Ok.ensures.given; back = c.end.ensures.given_back; served = a.5; waited = c.serve_peer-peer.ensures.waited; aged = a.6; run = rw c.accepted.invariant.rules at a.3; keeps = a.2.0; store = c.store_fault.ensures }) in
+    let all = visits_more _ _ _ p.0 v _ _ _ p.3 (record { came = c.in-Ok.peer; went = c.serve_peer-peer.result.0; between = c.accept.new.self; given = c.in-Ok.ensures.given; back = c.end.ensures.given_back; served = a.5; waited = c.serve_peer-peer.ensures.waited; tried = c.serve_peer-peer.ensures.tried; aged = a.6; run = rw c.accepted.invariant.rules at a.3; keeps = a.2.0; store = c.store_fault.ensures }) in
     let more : c.accepted.counter < c.args.self.now.most = let in_range = c.accepted-test.true in omega arith in
     let e = err_from_is_err_and c.from_residual.result c.from_residual.ensures.1 in
     let lines = told_in_part _ _ _ (ends p.0) (g.H.Listener.cut c.args.listener.now) c.args.self.now.most c.accepted.counter (fault_of v.ended) _ _ _ (ends_length p.0 ∙ p.4) more p.5 c.accepted.invariant.fine c.in_err-tell_ended.ensures in

@@ -16,3 +16,6 @@ returns-clause-run g c = λ honest s held.
 
 pub returns-clause-waited : goal.returns-clause-waited
 returns-clause-waited g c = rw c.take_watch-watch.ensures.waits at c.serve_stream.ensures.waited
+
+pub returns-clause-tried : goal.returns-clause-tried
+returns-clause-tried g c = rw c.take_watch-watch.ensures.waits at c.serve_stream.ensures.tried

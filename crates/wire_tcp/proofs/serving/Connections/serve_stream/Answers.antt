@@ -1,4 +1,5 @@
 use Rattle.std.proofs.Common.{◌∙◌, ap, sym}
+use Rattle.wire_tcp.proofs.TryLemmas.{are_tried, tried_as}
 use Rattle.wire_tcp.proofs.WaitLemmas.{are_waits}
 use Rattle.wire_tcp.proofs.ServedLemmas.{served_as, waits_as, ages_as}
 use Rattle.wire_tcp.proofs.serving.Connections.serve_stream.Goals as goal
@@ -21,3 +22,10 @@ returns-clause-waited g c =
     let new = c.new-stream.ensures in
     waits_as _ _ _ _ _ _ _ new.patience new.longest (c.put_watch.ensures.waits ∙ ap (λ p. (g.P.Peer.times p).waits) c.into_peer-peer.ensures)
     (are_waits c.new-stream.result.pace _ _ _ _ _ new.first (new.left ∙ sym new.patience) new.connected c.serve_stream-served.ensures.kept.1)
+
+pub returns-clause-tried : goal.returns-clause-tried
+returns-clause-tried g c =
+    let new = c.new-stream.ensures in
+    let tried = c.serve_stream-served.ensures.kept.3 in
+    tried_as c.serve_stream-served.result.ended _ _ _ (c.put_watch.ensures.waits ∙ ap (λ p. (g.P.Peer.times p).waits) c.into_peer-peer.ensures)
+    (are_tried c.serve_stream-served.result.ended _ _ _ _ tried.0 tried.1 _ _ _ _ new.connected tried.2 new.reads new.writes tried.3 tried.4 c.serve_stream-served.ensures.devices)
