@@ -18,7 +18,7 @@ use Rattle.cli_core.proofs.StepLemmas.{refused_before, given_before, reached_bef
 
 -- ---- printing
 
--- a prefix of a text went out behind another text
+-- a prefix of a text went out after another text
 pub front_behind : (a b c : Option (List ℕ)) (first second : List ℕ) → Appends a b first → AppendsFront b c second → AppendsFront a c (first ++ second)
 front_behind a b c first second whole front =
     let short : length first + front.0 ≤ length (first ++ second) = omega (arith, front.1, length-append first second) in

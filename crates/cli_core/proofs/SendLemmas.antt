@@ -1,4 +1,4 @@
--- A text that is sent in pieces, one behind the other.
+-- A text that is sent in pieces, one after the other.
 use Rattle.std.proofs.Common.{◌≡◌, ℕ, ◌≤◌, List, ◌++◌, length, Option, Result, Ok, Err, sym, subst, ◌∙◌, arith, length-append}
 use Rattle.std.proofs.lemmas.List.{take-append-le}
 use Rattle.std.specs.Io.KnownBytes.{Appends}
@@ -14,7 +14,7 @@ sent_front a b first second front =
     let short : front.0 ≤ length (first ++ second) = omega (arith, front.1, length-append first second) in
     (front.0, short, subst (Appends a b) (sym (take-append-le front.0 first second front.1)) front.2)
 
--- the second piece was sent behind the first
+-- the second piece was sent after the first
 pub sent_behind : (a b c : Option (List ℕ)) (first second : List ℕ) (result : Result (Unit {0}) DeviceFailed) (n m k : ℕ) → Appends a b first × (m ≡ n)
     → IsSent b c second result m k → IsSent a c (first ++ second) result n k
 sent_behind a b c first second (Ok done) n m k whole sent = (Appends-trans a b c first second whole.0 sent.0, sent.1 ∙ whole.1)

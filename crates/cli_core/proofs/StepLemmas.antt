@@ -1,4 +1,4 @@
--- Steps of a job, one behind the other: words are read, then the input, and then an answer is made of both.
+-- Steps of a job, one after the other: words are read, then the input, and then an answer is made of both.
 use Rattle.std.proofs.Common.{◌≡◌, ℕ, ◌<◌, ◌≤◌, List, [], length, if◌then◌else◌, Option, Some, None, Result, Ok, Err, Vec, Global, refl, ap, ◌∙◌}
 use Rattle.std.proofs.lemmas.Bool.{le-ltb, lt-ltb}
 use Rattle.cli_core.specs.declared.refusal.Refusal.{Refusal}
@@ -26,14 +26,14 @@ limited_reached input more = ap (λ b. if b then Err TooLarge else Ok input) (lt
 
 -- ---- two steps
 
--- what comes behind a step that is refused is not made
+-- what comes after a step that is refused is not made
 pub refused_before : {A B : Type 0} (made : Result A Refusal) (next : A → Result B Refusal) (refusal : Refusal) → made ≡ Err refusal → (made >>= next) ≡ Err refusal
 refused_before made next refusal e = ap (λ m. m >>= next) e
 
 pub given_before : {A B : Type 0} (made : Result A Refusal) (next : A → Result B Refusal) (a : A) → made ≡ Ok a → (made >>= next) ≡ next a
 given_before made next a e = ap (λ m. m >>= next) e
 
--- the input is reached by what makes something of it, and by what asks for it behind words that are not refused
+-- the input is reached by what makes something of it, and by what asks for it after words that are not refused
 pub reached_before : {A B : Type 0} (make : List ℕ → Result A Refusal) (next : A → Result B Refusal) → ReachesInput make → ReachesInput (λ input. make input >>= next)
 reached_before make next reached input more = refused_before (make input) next TooLarge (reached input more)
 

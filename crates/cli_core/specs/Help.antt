@@ -70,7 +70,7 @@ version_line = codes "zoneoffice 1.0.0" ++ 10 ∷ []
 
 -- ---- what words ask for
 
--- the command whose help words ask for: the one that the first word names, or the second behind `help`
+-- the command whose help words ask for: the one that the first word names, or the second after `help`
 abbrev pub command_helped : List Text → Option Command
 command_helped words =
     option_and_then (λ word. if bytes_eq word (codes "help") then option_and_then command_of (slice_get words 1) else command_of word) (slice_get words 0)

@@ -20,7 +20,7 @@ use Rattle.cli_core.specs.declared.word_fault.WordFault.TheVariants as of_word
 use Rattle.cli_core.specs.declared.refusal.Refusal.{Refusal}
 use Rattle.cli_core.specs.declared.refusal.Refusal.TheVariants.{Name, TypeNotKept, NoCaller, NoAction, NoRule, TooLarge, NoDivider, Master, Zone, Policy, Items, Unmet, Line, UnknownNumber, NoIdentifier, BodyTooLarge, Store}
 
--- ---- numbers: that of a refusal, and behind it that of the refusal within it
+-- ---- numbers: that of a refusal, and after it that of the refusal within it
 
 abbrev pub data_numbers : DataFault → List ℕ
 data_numbers (of_data.Name fault) = 19 ∷ name_number fault ∷ []

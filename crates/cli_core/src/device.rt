@@ -67,7 +67,7 @@ fn write_no_memory<W: Sink>(writer: &mut W) -> JobFault
     write_line(writer, NO_MEMORY_LINE.as_bytes(), LineFault::NoMemory)
 }
 
-/// What came of a printing that `dns_master` did. Where memory ran out, a line tells it behind what went out.
+/// What came of a printing that `dns_master` did. Where memory ran out, a line tells it after what went out.
 pub fn ended<W: Sink>(writer: &mut W, printed: Result<(), MasterFault>) -> Result<(), JobFault>
     ensures { (old : Option (List ℕ)) (text : List ℕ) (failures : ℕ) → TextWritten old (W.contents writer.old) text printed failures (W.failures writer.old)
         → IsPrinted old (W.contents writer.new) text result failures (W.failures writer.new) }

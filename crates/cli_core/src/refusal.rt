@@ -185,7 +185,7 @@ impl Display for PolicyNumbers {
     }
 }
 
-/// The published number of a refusal, with those of what it stands for behind it, and dots between them.
+/// The published number of a refusal, with those of what it stands for after it, and dots between them.
 #[derive(Clone, Copy)]
 struct Numbers(Refusal);
 

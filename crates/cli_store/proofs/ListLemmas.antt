@@ -61,7 +61,7 @@ pub all_more : {X : Type 0} (P : X → Type 0) (xs : List X) (x : X) → AllByRe
 all_more P [] x all one = (one, tt)
 all_more P (y ∷ xs) x all one = (all.0, all_more P xs x all.1 one)
 
--- one more behind those of the first origins
+-- one more after those of the first origins
 pub origins_more : (origins : List (List (List ℕ))) (i : ℕ) (d : List (List ℕ)) (zones more : List ZoneSummary) (z : ZoneSummary) → i < length origins → map (λ (z : ZoneSummary). z.origin) zones ≡ take i origins
     → z.origin ≡ get_or origins i d → more ≡ zones ++ z ∷ [] → map (λ (z : ZoneSummary). z.origin) more ≡ take (i + 1) origins
 origins_more origins i d zones more z below so_far is e =

@@ -92,7 +92,7 @@ receipt-Decides asked k =
 abbrev change_of : NumberedOf → ChangeOf
 change_of c = record { removed = c.removed; added = c.added }
 
--- the change at a place has the number behind all before it
+-- the change at a place has the number after all before it
 placed : (n : ℕ) (cs : List ChangeOf) (c : NumberedOf) → Among c (numbered n cs) → (place : ℕ) × (slice_get cs place ≡ Some (change_of c)) × (c.number ≡ n + place)
 placed n [] c among = absurd among
 placed n (x ∷ xs) c (inl same) = (0, ap (λ (y : NumberedOf). Some (change_of y)) (sym same), ap (λ (y : NumberedOf). y.number) same ∙ sym (add-zero n))

@@ -51,7 +51,7 @@ records_within removed added (Some top) =
 
 -- ---- piece by piece
 
--- behind the last there is no more
+-- after the last there is no more
 pub all_taken : {X : Type 0} (all : List X → List ℕ) (first : List ℕ) (xs : List X) (i : ℕ) (text : List ℕ) → length xs ≤ i → text ≡ first ++ all (take i xs) → text ≡ first ++ all xs
 all_taken {X} all first xs i text h so_far = so_far ∙ ap (λ (ys : List X). first ++ all ys) (take_all i xs h)
 

@@ -32,7 +32,7 @@ name_same : (a b : Labels) → same_name a b ≡ same_name b a
 name_same a b =
     both_ways (same_name a b) (same_name b a) (λ t. (same_name-Decides b a).1 (sym ((same_name-Decides a b).0 t))) (λ t. (same_name-Decides a b).1 (sym ((same_name-Decides b a).0 t)))
 
--- an origin that is that of a zone is that of none of those behind it
+-- an origin that is that of a zone is that of none of those after it
 not_behind : (z : ZoneSummary) (zones : List ZoneSummary) → AllPairs (λ a b. a.origin ≢ b.origin) (z ∷ zones) → (origin : Labels) → same_name z.origin origin ≡ true → is_listed zones origin ≡ false
 not_behind z zones apart origin same =
     false_from_ne_true (is_listed zones origin) (λ listed.

@@ -37,14 +37,14 @@ same_found : (found : Option ℕ) → found ≡ option_map (λ m. m + 0) found
 same_found None = refl
 same_found (Some m) = ap (λ (k : ℕ). Some k) (sym (add-zero m))
 
--- what is found behind one more of an origin
+-- what is found after one more of an origin
 pub one_counted : (found : Labels → Option ℕ) (origin other : Labels) (n : ℕ) → Some n ≡ found origin
     → cond (same_name origin other) (Some (n + 1)) (found other) ≡ option_map (λ m. m + cond (same_name origin other) 1 0) (found other)
 one_counted found origin other n there =
     by_cases (same_name origin other) (cond (same_name origin other) (Some (n + 1)) (found other) ≡ option_map (λ m. m + cond (same_name origin other) 1 0) (found other))
     (λ t. let here : found other ≡ Some n = ap found (sym (name_is origin other t)) ∙ sym there in rw (t, here) refl) (λ f. rw f (same_found (found other)))
 
--- and behind one of an origin that is not there
+-- and after one of an origin that is not there
 pub none_counted : (found : Labels → Option ℕ) (origin other : Labels) → None ≡ found origin → found other ≡ option_map (λ m. m + cond (same_name origin other) 1 0) (found other)
 none_counted found origin other there =
     by_cases (same_name origin other) (found other ≡ option_map (λ m. m + cond (same_name origin other) 1 0) (found other))
@@ -72,7 +72,7 @@ lines_counted found kept (z ∷ zs) each =
     let rest = lines_counted found kept zs (λ origin listed. each origin (or_right (same_name z.origin origin) (is_listed zs origin) listed)) in
     λ i. zone_line z (unwrap_or (here i) 0) ++ rest i
 
--- what was found of an origin before and behind the count
+-- what was found of an origin before and after the count
 pub listed_counted : (zones : List ZoneSummary) (kept : List KeptReceipt) (origin : Labels) (before found : Option ℕ) → before ≡ none_yet zones origin
     → found ≡ option_map (λ n. receipts_of kept origin) before → is_listed zones origin ≡ true → found ≡ Some (receipts_of kept origin)
 listed_counted zones kept origin before found is counted listed = counted ∙ ap (option_map (λ n. receipts_of kept origin)) (is ∙ ap zero_if listed)

@@ -86,7 +86,7 @@ log_text asked changes kept = flat_map change_text (changes_asked asked changes)
 abbrev pub SomeWithin : List (List (List ℕ)) → List (List ℕ) → Type 0
 SomeWithin names top = (name : List (List ℕ)) × Contains names name × IsWithin name top
 
--- A change has a number and is asked for: the change at a place, from 0, of those of the zone has the number behind it.
+-- A change has a number and is asked for: the change at a place, from 0, of those of the zone has the number after it.
 pub record IsChangeAsked (asked : LogAsked) (changes : List ChangeOf) (c : NumberedOf) : Type 0 where
   pub place : ℕ
   pub is : slice_get changes place ≡ Some (record { removed = c.removed; added = c.added })

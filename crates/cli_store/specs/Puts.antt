@@ -12,7 +12,7 @@ abbrev pub put_into : Existing → State → ZoneOf → Result ZoneOf StoreFault
 put_into Kept s zone = if_free (s.zones zone.origin) zone
 put_into Replaced s zone = if_later (s.zones zone.origin) zone
 
--- and the state behind that
+-- and the state after that
 abbrev pub with_put : Existing → State → ZoneOf → State
 with_put Kept s zone = with_imported s (put_into Kept s zone)
 with_put Replaced s zone = with_replaced s (put_into Replaced s zone)

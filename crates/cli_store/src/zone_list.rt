@@ -108,7 +108,7 @@ fn push_elsewhere(text: &mut String, receipts: usize) -> Result<(), AllocError>
 }
 
 /// The zones of a store: of each, in the order in which they come, a line `ORIGIN serial S records R changes C receipts N`, where N is how
-/// many receipts there are of updates of this origin; and behind them, if there are receipts of other origins, a line
+/// many receipts there are of updates of this origin; and after them, if there are receipts of other origins, a line
 /// `elsewhere receipts N`. The only error is out of memory.
 pub fn zones_text(
     alloc: Global,

@@ -130,8 +130,8 @@ fn push_receipts(
     push_asked_receipts(alloc, text, asked, all)
 }
 
-/// The log of a zone, as far as it is asked for: of each change, in order, a line `change NUMBER`, the records that went, each behind `-`,
-/// and those that came, each behind `+`; then of each receipt, in the order in which they come, a line `receipt CALLER ID ANSWER` and the
+/// The log of a zone, as far as it is asked for: of each change, in order, a line `change NUMBER`, the records that went, each after `-`,
+/// and those that came, each after `+`; then of each receipt, in the order in which they come, a line `receipt CALLER ID ANSWER` and the
 /// items of its update, as `items_text` prints them. The changes are all of the zone, from the first on. The only error is out of memory.
 pub fn log_text(
     alloc: Global,

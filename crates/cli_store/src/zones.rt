@@ -224,7 +224,7 @@ impl TableJob<Vec<Record>> for RecordsOf<'_> {
 }
 
 /// Prints records of an origin as a master file, in a form, or the line of the fault that was met. Where memory runs out, a line tells
-/// it behind what went out.
+/// it after what went out.
 fn print_held<W: Sink>(
     alloc: Global,
     form: ZoneForm,

@@ -33,7 +33,7 @@ module _ (origin : List (List ℕ)) (zone : ZoneOf) where
 
 -- ---- the second file
 
--- what was answered behind a writer that stands as another did
+-- what was answered after a writer that stands as another did
 pub answered_behind : (left : Option (List ℕ)) (answer : List ℕ → Result (List ℕ) Refusal) (before old new : Option (List ℕ)) (result done : Result (Unit {0}) JobFault)
     (fine failed : Type 0) (first writes writes_after : ℕ) → old ≡ before → writes ≡ first → result ≡ done → Answered left answer old new result fine failed writes writes_after
     → Answered left answer before new done fine failed first writes_after

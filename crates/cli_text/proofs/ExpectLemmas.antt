@@ -1,11 +1,11 @@
--- What is told of expectations, one behind the other.
+-- What is told of expectations, one after the other.
 use Rattle.std.proofs.Common.{◌≡◌, ◌∙◌, ◌+◌, ◌<◌, ℕ, List, [], ◌∷◌, ◌++◌, length, take, get_or, ap, refl, sym, subst, append_assoc, append-nil}
 use Rattle.std.proofs.lemmas.List.{take_more}
 use Rattle.grant_policy.specs.declared.rule.Rule.{Rule}
 use Rattle.policy_tools.specs.declared.expectation_lines.ExpectationLine.{ExpectationLine}
 use Rattle.cli_text.specs.Expect.{IsRowText, AreRowTexts}
 
--- the text of one more line is behind that of the others
+-- the text of one more line is after that of the others
 pub one_more : (rules : List Rule) (rows : List ExpectationLine) (row : ExpectationLine) (text here : List ℕ) → AreRowTexts rules rows text → IsRowText rules row here
     → AreRowTexts rules (rows ++ row ∷ []) (text ++ here)
 one_more rules [] row text here none is = (here, [], ap (λ t. t ++ here) none ∙ sym (append-nil here), is, refl)

@@ -61,7 +61,7 @@ pub line_len-within : (text : List ℕ) → line_len text ≤ length text
 line_len-within [] = omega arith
 line_len-within (o ∷ rest) = let ih = line_len-within rest in elim (o == 10) as (λ b. (if b then 1 else suc (line_len rest)) ≤ suc (length rest)) [ true ↦ omega arith | false ↦ omega (arith, ih) ]
 
--- ---- lines behind lines
+-- ---- lines after lines
 
 ends-tail : (o : ℕ) (rest : List ℕ) → EndsLine (o ∷ rest) → ((rest ≡ []) × (o ≡ 10)) ⊎ ((front : List ℕ) × (rest ≡ front ++ 10 ∷ []))
 ends-tail o rest (inl none) = absurd (cc none)
@@ -132,7 +132,7 @@ lines-ended (o ∷ rest) =
     ] in
     step (o == 10) refl
 
--- a line that has others behind it ends
+-- a line that has others after it ends
 pub ended-at : (front : List (List ℕ)) (l m : List ℕ) (ls : List (List ℕ)) → AreEnded (front ++ l ∷ m ∷ ls) → IsEnded l
 ended-at [] l m ls ended = ended.0
 ended-at (x ∷ []) l m ls ended = ended.1.0
@@ -142,7 +142,7 @@ ended-behind : (l text : List ℕ) → IsEnded l → EndsLine text → EndsLine 
 ended-behind l text end (inl none) = inr (end.0, rw none (append-nil l ∙ end.1))
 ended-behind l text end (inr more) = inr (l ++ more.0, ap (λ (t : List ℕ). l ++ t) more.1 ∙ sym (append_assoc l more.0 (10 ∷ [])))
 
--- and lines that have another behind them make a text of lines
+-- and lines that have another after them make a text of lines
 pub ended-text : (front : List (List ℕ)) (l : List ℕ) (ls : List (List ℕ)) → AreEnded (front ++ l ∷ ls) → EndsLine (concat front)
 ended-text [] l ls ended = inl refl
 ended-text (x ∷ []) l ls ended = ended-behind x [] ended.0 (inl refl)

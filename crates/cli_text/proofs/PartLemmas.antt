@@ -120,7 +120,7 @@ either false b is = inr is
 same_octets : (a b : List ℕ) → bytes_eq a b ≡ true → a ≡ b
 same_octets a b is = (bytes_eq-Decides a b).0 is
 
--- is a divider, where it has its end or nothing is behind it
+-- is a divider, where it has its end or nothing is after it
 divider-is : (line behind : List ℕ) → is_divider line ≡ true → IsEnded line ⊎ (behind ≡ []) → IsDivider line behind
 divider-is line behind is end =
     elim (either _ _ is) [
@@ -217,7 +217,7 @@ parts_of-next (x ∷ ls) l more is none =
 
 -- ---- the relation
 
--- nothing stands behind the last line
+-- nothing stands after the last line
 behind_last : (front : List (List ℕ)) (l : List ℕ) (ls : List (List ℕ)) → AreEnded (front ++ l ∷ ls) → IsEnded l ⊎ (concat ls ≡ [])
 behind_last front l [] ended = inr refl
 behind_last front l (m ∷ ls) ended = inl (ended-at front l m ls ended)

@@ -20,7 +20,7 @@ octets_more id tests i x lt is =
     sym (ap (tests_octets id) (ap lent (take_next tests i x lt is) ∙ map-append (λ (y : Bor Prerequisite). y.now) (take i tests) (x ∷ []))
     ∙ fold_push (λ n p. sum_up n (test_octets id p)) 0 (lent (take i tests)) x.now)
 
--- an item more behind others
+-- an item more after others
 pub pushed : {X Y : Type 0} (view : X → Y) (initial done more : List Y) (xs all : List X) (x : X) (y : Y) → all ≡ xs ++ x ∷ [] → map view xs ≡ initial ++ done
     → view x ≡ y → done ++ y ∷ [] ≡ more → map view all ≡ initial ++ more
 pushed view initial done more xs all x y is held seen next =
@@ -55,7 +55,7 @@ operation_next {A} f slots ys i x y same lt is is' =
     zip_next f (slots_view slots) ys i (lent x.items) y (subst (λ n. i < n) (sym (slots_length slots)) below) lt
     (ap view is ∙ sym (map_at view slots i x (lent x.items) below)) is'
 
--- more behind what is behind others
+-- more after what is after others
 pub behind_more : {Y : Type 0} (initial done front more all new : List Y) → front ≡ initial ++ done → new ≡ front ++ more → done ++ more ≡ all → new ≡ initial ++ all
 behind_more initial done front more all new held is next = is ∙ (ap (λ l. l ++ more) held ∙ (append_assoc initial done more ∙ ap (λ l. initial ++ l) next))
 

@@ -26,7 +26,7 @@ whole_first t ts =
     let m : 1 + run t.entry ts ≡ suc (run t.entry ts) = omega arith in
     rw (eq-eqb t.entry t.entry refl, m) (gathered_first t ts)
 
--- what is read behind questions
+-- what is read after questions
 abbrev pub then_questions : List QuestionOf → Result (List QuestionOf) Refusal → Result (List QuestionOf) Refusal
 then_questions front read = read >>= λ back. Ok (front ++ back)
 
@@ -34,7 +34,7 @@ then_both : (a b : List QuestionOf) (read : Result (List QuestionOf) Refusal) �
 then_both a b (Ok qs) = ap (λ (xs : List QuestionOf). Ok xs) (sym (append_assoc a b qs))
 then_both a b (Err refusal) = refl
 
--- behind the last there is no more
+-- after the last there is no more
 pub none_behind : (front : List QuestionOf) → then_questions front (Ok []) ≡ Ok front
 none_behind front = ap (λ (xs : List QuestionOf). Ok xs) (append-nil front)
 

@@ -1,4 +1,4 @@
--- The bodies of parts, one behind the other.
+-- The bodies of parts, one after the other.
 use Rattle.std.proofs.Common.{◌≡◌, ℕ, ◌+◌, ◌<◌, ◌≤◌, List, length, get_or, map, drop, Ok, ap}
 use Rattle.zone_core.specs.Updates.{UpdateOf}
 use Rattle.cli_core.specs.LineFaults.{◌>>=◌}

@@ -50,12 +50,12 @@ zone_of_text file = records_of file >>= zone_of_records
 abbrev pub line_ends : List ℕ → ℕ
 line_ends text = count_by (λ o. o == 10) text
 
--- what is read of items behind so many line ends, with the line of a fault counted in the whole input
+-- what is read of items after so many line ends, with the line of a fault counted in the whole input
 abbrev pub behind_lines : {A : Type 0} → ℕ → Result A ItemsFault → Result A ItemsFault
 behind_lines lines (Err (BadLine line)) = Err (BadLine (lines + line))
 behind_lines lines read = read
 
--- the update behind the divider
+-- the update after the divider
 abbrev pub update_behind : Parts → Result UpdateOf Refusal
 update_behind parts = of_items (behind_lines (line_ends (parts.file ++ parts.divider)) (items_of parts.items))
 

@@ -52,7 +52,7 @@ abbrev pub or_line : Result (List ExpectationLine) ExpectationsFault → Result 
 or_line (Ok rows) = Ok rows
 or_line (Err e) = Err (refusal_of e (word_fault e.fault))
 
--- the expectations of a text, or the refusal of the first line that is none
+-- the expectations of a text, or the refusal of the first line that is not one
 abbrev pub expectations_read : List ℕ → Result (List ExpectationLine) Refusal
 expectations_read text = or_line (expectations_of text)
 
@@ -77,7 +77,7 @@ IsRowText rules row text =
     (Holds rules row.expectation × (text ≡ []))
     ⊎ ((example : Counterexample) × IsCounterexample rules row.expectation example × (text ≡ example_line rules row.line example))
 
--- the same of lines, one behind the other
+-- the same of lines, one after the other
 abbrev pub AreRowTexts : List Rule → List ExpectationLine → List ℕ → Type 0
 AreRowTexts rules [] text = text ≡ []
 AreRowTexts rules (row ∷ rows) text =

@@ -24,11 +24,11 @@ has_room n u p =
     nat_le (n + p.octets) 65504
     && (nat_le (length u.prerequisites + length p.items.prerequisites) 64 && nat_le (length u.operations + length p.items.operations) 256)
 
--- whether others go behind items: where there is room, or nothing on one side
+-- whether others go after items: where there is room, or nothing on one side
 abbrev pub takes : ℕ → UpdateOf → PieceOf → Bool
 takes n u p = is_bare u || (is_bare p.items || has_room n u p)
 
--- the parts of items of so many octets and those behind them, where a part without items has as many as the frame
+-- the parts of items of so many octets and those after them, where a part without items has as many as the frame
 abbrev pub filled : ℕ → ℕ → UpdateOf → List PieceOf → List UpdateOf
 filled frame n u [] = u ∷ []
 filled frame n u (p ∷ ps) =

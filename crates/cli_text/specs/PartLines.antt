@@ -5,7 +5,7 @@ use Rattle.wire_json.specs.Reading.{update_of_body}
 use Rattle.cli_text.specs.Request.{identifier_in}
 use Rattle.cli_text.specs.Split.{numbered, part_update}
 
--- The line of a part behind so many others: a body of at most 65,536 octets with its line end, which the office reads as the update of the
+-- The line of a part after so many others: a body of at most 65,536 octets with its line end, which the office reads as the update of the
 -- part, under the identifier of its number.
 pub record IsPartLine (word : List ℕ) (before : ℕ) (u : UpdateOf) (line : List ℕ) : Type 0 where
   pub id : List ℕ
@@ -17,7 +17,7 @@ pub record IsPartLine (word : List ℕ) (before : ℕ) (u : UpdateOf) (line : Li
   pub short : length line ≤ 65536
   pub read : update_of_body body ≡ Ok (record { id = id; update = update })
 
--- a text is the lines of parts behind so many others
+-- a text is the lines of parts after so many others
 abbrev pub ArePartLines : List ℕ → ℕ → List UpdateOf → List ℕ → Type 0
 ArePartLines word before [] text = text ≡ []
 ArePartLines word before (u ∷ us) text =

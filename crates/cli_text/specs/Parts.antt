@@ -4,7 +4,7 @@ use Rattle.std.specs.List.{concat}
 use Rattle.std.specs.Option.{option_map}
 use Rattle.std.specs.Str.{bytes_eq}
 
--- what stands before the divider, the divider with its line end, and what stands behind it
+-- what stands before the divider, the divider with its line end, and what stands after it
 pub record Parts : Type 0 where
   pub file : List ℕ
   pub divider : List ℕ
@@ -16,7 +16,7 @@ pub record Parts : Type 0 where
 abbrev pub EndsLine : List ℕ → Type 0
 EndsLine text = (text ≡ []) ⊎ ((front : List ℕ) × (text ≡ front ++ 10 ∷ []))
 
--- a line `--`, of which a carriage return behind it does not count
+-- a line `--`, of which a carriage return after it does not count
 abbrev pub IsMark : List ℕ → Type 0
 IsMark mark = (mark ≡ codes "--") ⊎ (mark ≡ codes "--" ++ 13 ∷ [])
 
@@ -53,7 +53,7 @@ is_divider line =
 abbrev pub with_line : List ℕ → Parts → Parts
 with_line line parts = record parts { file = line ++ parts.file }
 
--- what stands before the first of lines that is a divider, that line, and what stands behind it
+-- what stands before the first of lines that is a divider, that line, and what stands after it
 abbrev pub parts_of : List (List ℕ) → Option Parts
 parts_of [] = None
 parts_of (line ∷ lines) =

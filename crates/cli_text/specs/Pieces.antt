@@ -26,7 +26,7 @@ operation_pieces id frame p =
     if has_room frame no_items (guarded_piece id p.0 p.1) then guarded_piece id p.0 p.1 ∷ []
     else tests_piece id p.0 ∷ operation_piece id p.1 ∷ []
 
--- the prerequisites that go before all operations, by their names; and then each operation, behind those at its name if it is the first
+-- the prerequisites that go before all operations, by their names; and then each operation, after those at its name if it is the first
 abbrev pub pieces_of : List ℕ → ℕ → List Prerequisite → List Operation → List PieceOf
 pieces_of id frame tests operations =
     let first = unplaced operations tests in

@@ -55,7 +55,7 @@ asker_read word input = caller_in word >>= λ caller. limited input >>= asker_of
 abbrev pub reply_line : UpdateReply → List ℕ
 reply_line reply = reply_words reply ++ 10 ∷ []
 
--- a record behind a sign
+-- a record after a sign
 abbrev pub signed_line : List ℕ → Record → List ℕ
 signed_line sign r = sign ++ 32 ∷ (record_line r ++ 10 ∷ [])
 
@@ -70,7 +70,7 @@ change_lines (Some c) = signed_lines (codes "-") c.removed ++ signed_lines (code
 abbrev pub serial_line : ZoneOf → List ℕ
 serial_line zone = codes "serial " ++ decimal (serial_of zone) ++ 10 ∷ []
 
--- the reply; and of an update that is made its change, and the serial behind it
+-- the reply; and of an update that is made its change, and the serial after it
 abbrev pub plan_lines : ZoneOf → UpdateOf → Option UpdateReply → List ℕ
 plan_lines zone update (Some refused) = reply_line refused
 plan_lines zone update None =

@@ -39,7 +39,7 @@ kept_or n None = if n == 255 then Any else Other
 abbrev pub type_by_number : ℕ → Option QueryType
 type_by_number n = if nat_lt 65535 n then None else Some (kept_or n (numbered_type n))
 
--- what is behind `TYPE`
+-- what is after `TYPE`
 abbrev pub behind_type : List ℕ → Option (List ℕ)
 behind_type word = if bytes_eq (take 4 word) (codes "TYPE") || bytes_eq (take 4 word) (codes "type") then Some (drop 4 word) else None
 
@@ -116,7 +116,7 @@ abbrev pub question_of : ℕ → List ItemText → Result QuestionOf Refusal
 question_of line [] = Err (Line line word.Question)
 question_of line (owner ∷ kinds) = unquoted line word.Question owner >>= λ raw. name_on line (absolute_name raw) >>= λ name. typed_question line name kinds
 
--- the questions of lines, or the refusal of the first that is none
+-- the questions of lines, or the refusal of the first that is not one
 abbrev pub questions_in : List EntryLine → Result (List QuestionOf) Refusal
 questions_in [] = Ok []
 questions_in (e ∷ es) = question_of e.line e.items >>= λ q. questions_in es >>= λ qs. Ok (q ∷ qs)

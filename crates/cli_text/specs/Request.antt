@@ -15,7 +15,7 @@ identifier_in word = or_refused (identifier_of word) NoIdentifier
 abbrev pub short_body : List ℕ → Result (List ℕ) Refusal
 short_body body = if nat_lt 65536 (length body) then Err BodyTooLarge else Ok body
 
--- a body with a line end behind it, which is white space there (RFC 8259 section 2)
+-- a body with a line end after it, which is white space there (RFC 8259 section 2)
 abbrev pub body_line : List ℕ → Result (List ℕ) Refusal
 body_line body = short_body (body ++ 10 ∷ [])
 

@@ -15,7 +15,7 @@ shared_line r = codes "; shared " ++ record_text r
 abbrev pub shared_lines : List Record → List ℕ
 shared_lines rs = flat_map shared_line rs
 
--- the lines of the pointers within an origin that records call for, and behind them those of the records whose addresses several names
+-- the lines of the pointers within an origin that records call for, and after them those of the records whose addresses several names
 -- have; which are nothing that a check finds
 abbrev pub IsReverseReport : List (List ℕ) → List Record → Findings → List ℕ → Type 0
 IsReverseReport origin rs findings text =

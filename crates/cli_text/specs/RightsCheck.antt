@@ -18,7 +18,7 @@ use Rattle.grant_policy.specs.Words.{action_text, all_actions}
 
 -- ---- a caller
 
--- a type with which an action may be done, behind a space
+-- a type with which an action may be done, after a space
 abbrev pub type_if : ℕ → Action → RecordType → List ℕ
 type_if rights action t = if has_point rights t action then 32 ∷ type_text t else []
 

@@ -38,7 +38,7 @@ abbrev pub advanced : ℕ → Operation → Operation
 advanced n (Add r) = Add (record r { rdata = advanced_data n r.rdata })
 advanced n op = op
 
--- the update of a part behind so many others
+-- the update of a part after so many others
 abbrev pub part_update : ℕ → UpdateOf → Result UpdateOf Refusal
 part_update before u = of_items (of_updates (update_of u.prerequisites (map (advanced (advance before)) u.operations)))
 
@@ -48,11 +48,11 @@ part_body word before u = identifier_in (numbered word (before + 1)) >>= λ id. 
 
 -- ---- all parts
 
--- a text with the body of a part behind it
+-- a text with the body of a part after it
 abbrev pub with_body : List ℕ → ℕ → List ℕ → UpdateOf → Result (List ℕ) Refusal
 with_body word before text u = part_body word before u >>= λ body. Ok (text ++ body)
 
--- the bodies of parts behind so many others, and behind a text
+-- the bodies of parts after so many others, and after a text
 abbrev pub bodies_behind : List ℕ → ℕ → List ℕ → List UpdateOf → Result (List ℕ) Refusal
 bodies_behind word before text [] = Ok text
 bodies_behind word before text (u ∷ us) = with_body word before text u >>= λ t. bodies_behind word (before + 1) t us

@@ -22,7 +22,7 @@ use zone_core::{Outcome, Rcode, Update, Zone, ZoneFault, apply_owned, holds};
 pub(crate) struct InputRead {
     /// The records of its master file.
     pub(crate) records: Vec<Record>,
-    /// Its items, or why they are no update: that is told behind what is wrong with the records.
+    /// Its items, or why they are no update: that is told after what is wrong with the records.
     pub(crate) update: Result<Update, LineFault>,
 }
 
@@ -49,7 +49,7 @@ fn line_ends(text: &[u8]) -> usize
     text.iter().filter(|octet| **octet == b'\n').count()
 }
 
-/// The update behind the divider, or its refusal, whose line counts from that of the whole input.
+/// The update after the divider, or its refusal, whose line counts from that of the whole input.
 fn read_update(alloc: Global, parts: &InputParts<'_>) -> Result<Update, LineFault>
     requires { length parts.now.file.now + length parts.now.divider.now + length parts.now.items.now < 2 ^ 63 }
     ensures { Gives (λ update. update) result (update_behind (parts_in parts.now)) }
@@ -146,7 +146,7 @@ fn read_updated<R: Input>(alloc: Global, reader: &mut R) -> Result<Zone, LineFau
     zone_after(alloc, input)
 }
 
-/// Prints the records of a zone. Where memory runs out, a line tells it behind what went out.
+/// Prints the records of a zone. Where memory runs out, a line tells it after what went out.
 fn print<W: Sink>(alloc: Global, zone: &Zone, writer: &mut W) -> Result<(), JobFault>
     ensures { IsPrinted (W.contents writer.old) (W.contents writer.new) (zone_lines zone.now) result (W.failures writer.old) (W.failures writer.new) }
 {

@@ -64,7 +64,7 @@ pub fn print_zone_in<'a, W: Sink>(
     }
 }
 
-/// Prints a zone. Where memory runs out, a line tells it behind what went out.
+/// Prints a zone. Where memory runs out, a line tells it after what went out.
 fn print<W: Sink>(
     alloc: Global,
     zone: &Zone,

@@ -101,7 +101,7 @@ pub(crate) fn expect_report(
 
 /// Writes what is expected of a policy and is not so: a line for each expectation that does not hold, in order. Two inputs are the policy
 /// and what is expected of it, which is read after it. Otherwise one line tells the refusal that comes first: that the policy is too
-/// large, or what is wrong in it; and that the expectations are too large, or the first line that is none.
+/// large, or what is wrong in it; and that the expectations are too large, or the first line that is not one.
 pub fn do_expect<R: Input, N: Input, W: Sink>(
     alloc: Global,
     policy: &mut R,

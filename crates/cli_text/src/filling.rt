@@ -75,14 +75,14 @@ impl<'a> Part<'a> {
             && operations <= Update::OPERATIONS_MAX
     }
 
-    /// Whether others go behind the items.
+    /// Whether others go after the items.
     fn takes(&self, piece: &Piece<'_, '_>) -> bool
         ensures { result ≡ takes self.now.octets (part_view self.now) (piece_view piece.now) }
     {
         self.is_bare() || piece.is_bare() || self.has_room(piece)
     }
 
-    /// Puts others behind the items. The only error is out of memory.
+    /// Puts others after the items. The only error is out of memory.
     fn push(&mut self, piece: &Piece<'a, '_>) -> Result<(), AllocError>
         ensures items { OnOk result (part_view self.new ≡ behind (part_view self.old) (piece_view piece.now).items) }
         ensures octets { OnOk result (self.new.octets ≡ sum_up self.old.octets piece.now.octets) }

@@ -6,14 +6,14 @@ ghost use Rattle.cli_text.specs.PartViews.{parts_in, line_len};
 
 use memchr::memchr;
 
-/// The parts of an input, which stand in it one behind the other.
+/// The parts of an input, which stand in it one after the other.
 #[derive(Clone, Copy)]
 pub struct InputParts<'a> {
     /// The master file: what stands before the divider.
     pub file: &'a [u8],
     /// The divider, with its line end.
     pub divider: &'a [u8],
-    /// The items: what stands behind the divider.
+    /// The items: what stands after the divider.
     pub items: &'a [u8],
 }
 

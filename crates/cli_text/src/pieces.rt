@@ -61,7 +61,7 @@ fn guarded_piece<'a, 'b>(
     })
 }
 
-/// Puts the pieces of an operation, and of the prerequisites that go with it, behind others. The only error is out of memory.
+/// Puts the pieces of an operation, and of the prerequisites that go with it, after others. The only error is out of memory.
 fn push_operation<'a, 'b>(
     alloc: Global,
     pieces: &mut Vec<Piece<'a, 'b>>,
@@ -84,7 +84,7 @@ fn push_operation<'a, 'b>(
     Ok(())
 }
 
-/// Puts the pieces of prerequisites by their names behind others. The only error is out of memory.
+/// Puts the pieces of prerequisites by their names after others. The only error is out of memory.
 fn push_tests<'a, 'b>(
     alloc: Global,
     pieces: &mut Vec<Piece<'a, 'b>>,
@@ -99,7 +99,7 @@ fn push_tests<'a, 'b>(
     Ok(())
 }
 
-/// Puts the pieces of operations, each with the prerequisites of its place, behind others. The only error is out of memory.
+/// Puts the pieces of operations, each with the prerequisites of its place, after others. The only error is out of memory.
 fn push_operations<'a, 'b>(
     alloc: Global,
     pieces: &mut Vec<Piece<'a, 'b>>,

@@ -54,7 +54,7 @@ fn reply_line(alloc: Global, reply: &UpdateReply) -> Result<String, AllocError>
     Ok(text)
 }
 
-/// Appends the lines of records, each behind a sign. The only error is out of memory.
+/// Appends the lines of records, each after a sign. The only error is out of memory.
 pub fn push_signed(text: &mut String, sign: &str, records: &[Record]) -> Result<(), AllocError>
     ensures { OnOk result (string_bytes text.new ≡ string_bytes text.old ++ signed_lines sign.now records.now) }
 {
@@ -152,9 +152,9 @@ fn first_asker<R: Input, W: Sink>(
 }
 
 /// Writes what the office would answer to an update of a zone by a caller: the reply in words, as a receipt has it; and of an update that
-/// would be made the records that go, behind `-`, those that come, behind `+`, and the serial. One input is the policy, and another the
+/// would be made the records that go, after `-`, those that come, after `+`, and the serial. One input is the policy, and another the
 /// master file of the zone, a line `--` and the items. Otherwise one line tells the refusal that comes first: of the caller, that the
-/// policy is too large, of the policy; and of the other input, which is read behind it, that it is too large, that it has no divider, of
+/// policy is too large, of the policy; and of the other input, which is read after it, that it is too large, that it has no divider, of
 /// the master file, of its records as a zone, of the items.
 pub fn do_plan<R: Input, N: Input, W: Sink>(
     alloc: Global,

@@ -51,7 +51,7 @@ fn type_by_number(number: u64) -> Option<QueryType>
     }
 }
 
-/// What is behind `TYPE`, in capitals or not.
+/// What is after `TYPE`, in capitals or not.
 fn behind_type(word: &[u8]) -> Option<&[u8]>
     ensures { option_map (λ s. s.now) result ≡ behind_type word.now }
 {

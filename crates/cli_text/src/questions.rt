@@ -158,7 +158,7 @@ fn push_question(questions: &mut Vec<Question>, question: Question) -> Result<()
     Ok(())
 }
 
-/// The questions of all entries, or the refusal of the first that is none.
+/// The questions of all entries, or the refusal of the first that is not one.
 fn questions_in(alloc: Global, tokens: &[Token]) -> Result<Vec<Question>, LineFault>
     ensures { Gives (λ qs. map question_view qs.items) result (questions_in (gathered (map token_of tokens.now))) }
 {

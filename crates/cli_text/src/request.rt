@@ -35,7 +35,7 @@ fn read_update(alloc: Global, items: Vec<u8>) -> Result<Update, LineFault>
     Ok(read_items(alloc, &items)?)
 }
 
-/// A body with a line end behind it, unless it is too long.
+/// A body with a line end after it, unless it is too long.
 pub(crate) fn body_line(body: String) -> Result<String, LineFault>
     ensures { Gives string_bytes result (body_line (string_bytes body)) }
 {

@@ -29,7 +29,7 @@ impl Model for ForwardRecords {
     ghost view = { λ f. f.records.items };
 }
 
-/// The records of a text that has master files, one behind the other, whose octets are given back.
+/// The records of a text that has master files, one after the other, whose octets are given back.
 pub(crate) fn forward_records(alloc: Global, text: Vec<u8>) -> Result<ForwardRecords, LineFault>
     ensures { Gives (λ records. records) result (records_of text.items) }
 {
@@ -56,7 +56,7 @@ fn push_all_shared(alloc: Global, text: &mut Vec<u8>, records: &[Record]) -> Res
     Ok(())
 }
 
-/// The report of pointers: their lines, and behind them as comments the records whose addresses several names have. It finds nothing.
+/// The report of pointers: their lines, and after them as comments the records whose addresses several names have. It finds nothing.
 /// The only error is out of memory.
 pub(crate) fn reverse_report(
     alloc: Global,

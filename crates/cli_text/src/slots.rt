@@ -87,7 +87,7 @@ fn empty_slots<'a>(alloc: Global, count: usize) -> Result<Slots<'a>, AllocError>
     Ok(slots)
 }
 
-/// Puts a prerequisite behind those of its place. The only error is out of memory.
+/// Puts a prerequisite after those of its place. The only error is out of memory.
 fn put<'a>(
     slots: &mut [Vec<&'a Prerequisite>],
     place: usize,
@@ -168,7 +168,7 @@ pub(crate) fn place_tests<'a>(
     Ok(placed)
 }
 
-/// Puts a prerequisite behind those of its place, if it has one. The only error is out of memory.
+/// Puts a prerequisite after those of its place, if it has one. The only error is out of memory.
 fn put_if<'a>(
     slots: &mut Slots<'a>,
     place: Option<usize>,

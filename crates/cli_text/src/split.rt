@@ -28,7 +28,7 @@ use zone_core::{Operation, Prerequisite, Update, UpdateFault, serial_add};
 /// The most that is added to a serial (RFC 1982 section 3.1).
 const ADVANCE_MAX: u32 = 0x7fff_ffff;
 
-/// By how much serials are advanced behind so many parts.
+/// By how much serials are advanced after so many parts.
 fn advance(before: usize) -> u32
     ensures { result ≡ advance before }
 {
@@ -94,7 +94,7 @@ fn copied(alloc: Global, tests: &[&Prerequisite]) -> Result<Vec<Prerequisite>, A
     Ok(all)
 }
 
-/// The update of a part behind so many others.
+/// The update of a part after so many others.
 fn part_update(alloc: Global, before: usize, part: &Part<'_>) -> Result<Update, LineFault>
     ensures { Gives (λ update. update) result (part_update before (part_view part.now)) }
 {
@@ -121,7 +121,7 @@ fn part_id(alloc: Global, word: &str, number: usize) -> Result<Identifier, LineF
     read_identifier(alloc, text.as_str())
 }
 
-/// The line of the body of a part behind so many others.
+/// The line of the body of a part after so many others.
 fn part_body(alloc: Global, word: &str, before: usize, part: &Part<'_>) -> Result<String, LineFault>
     requires { before < 2 ^ 63 }
     ensures exact { Gives string_bytes result (part_body word.now before (part_view part.now)) }
@@ -133,7 +133,7 @@ fn part_body(alloc: Global, word: &str, before: usize, part: &Part<'_>) -> Resul
     body_line(update_text(alloc, &id, &update)?)
 }
 
-/// Puts the line of the body of a part behind a text.
+/// Puts the line of the body of a part after a text.
 fn push_body(
     alloc: Global,
     text: &mut String,

@@ -24,7 +24,7 @@ IsAbove o = 46 < o
 glyph_above : (d : ℕ) → IsAbove (digit_glyph false d)
 glyph_above d = grind (arith, nat_tests)
 
--- digits are behind the dot
+-- digits are after the dot
 digits_above : (n : ℕ) → AllByRecursion IsAbove (decimal n)
 digits_above n = recursion_from_All IsAbove (decimal n) (decimal_holds IsAbove glyph_above n)
 
@@ -42,7 +42,7 @@ number_decides : (m n : ℕ) (s t : List ℕ) → m < 2 ^ 32 → n < 2 ^ 32 → 
 number_decides m n s t small also differ =
     decided (by_octets (decimal m) (decimal n)) (by_octets s t) (texts_differ m n small also differ) ∙ sym (number_then m n s t)
 
--- and else what is behind it
+-- and else what is after it
 number_ties : (m n : ℕ) (s t : List ℕ) → m ≡ n → by_octets s t ≡ by_octets (decimal m ++ 46 ∷ s) (decimal n ++ 46 ∷ t)
 number_ties m n s t same =
     let even : by_octets (decimal m) (decimal n) ≡ Equal = rw same (tied_itself nat_list_cmp_total (decimal n)) in

@@ -20,7 +20,7 @@ use Rattle.dns_data.proofs.CutLemmas.{IsVisible, value_visible, first_cut, strin
 abbrev Apart : (fields : Fields) → Values fields → Values fields → Type 0
 Apart fields v w = items_text (values_items fields v) ≡ items_text (values_items fields w) → values_items fields v ≡ values_items fields w
 
--- behind one more item
+-- after one more item
 one_more : (x y : List ℕ) (fields : Fields) (v w : Values fields) → AllByRecursion IsVisible x → AllByRecursion IsVisible y → IsLast fields v → IsLast fields w → Apart fields v w
     → items_text (plain x ∷ values_items fields v) ≡ items_text (plain y ∷ values_items fields w) → plain x ∷ values_items fields v ≡ plain y ∷ values_items fields w
 one_more x y End v w seen also is is' rest e = ap (λ (text : List ℕ). plain text ∷ []) e

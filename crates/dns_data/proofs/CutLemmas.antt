@@ -20,7 +20,7 @@ use Rattle.dns_data.proofs.TextLemmas.{behind, strings_text}
 
 -- ---- texts of visible octets
 
--- an octet behind the space
+-- an octet after the space
 abbrev pub IsVisible : ℕ → Type 0
 IsVisible o = 32 < o
 
@@ -126,13 +126,13 @@ first_cut (a ∷ x) (b ∷ y) s t seen also e =
 abbrev before : List ℕ → List ℕ × List ℕ → List ℕ × List ℕ
 before front parts = (front ++ parts.0, parts.1)
 
--- What stands before the first quote that is not escaped, and what stands behind it. A backslash may stand before the text.
+-- What stands before the first quote that is not escaped, and what stands after it. A backslash may stand before the text.
 abbrev cut_at_quote : (escaped : Bool) → List ℕ → List ℕ × List ℕ
 cut_at_quote escaped [] = ([], [])
 cut_at_quote true (o ∷ rest) = before (o ∷ []) (cut_at_quote false rest)
 cut_at_quote false (o ∷ rest) = cond (eqb o 34) ([], rest) (before (o ∷ []) (cut_at_quote (eqb o 92) rest))
 
--- the first such quote behind a printed string is the one that closes it
+-- the first such quote after a printed string is the one that closes it
 digit_no_quote : (d : ℕ) → eqb (48 + d) 34 ≡ false
 digit_no_quote d = ne_eqb (48 + d) 34 (λ e. omega arith)
 

@@ -80,7 +80,7 @@ pub record ReadData (t : RecordType) (origin : Option (List (List ℕ))) (items 
   pub read_is : values_at origin (fields_of t) items ≡ Ok (v, [])
   pub same : data_with t v ≡ made
 
--- data that end behind their last field
+-- data that end after their last field
 ended_ok : (d made : Data) (rest : List ItemText) → ended (d, rest) ≡ Ok made → (d ≡ made) × (rest ≡ [])
 ended_ok d made rest e =
     let g = needed_ok (eqb (length rest) 0) FieldExtra (done d) made e in

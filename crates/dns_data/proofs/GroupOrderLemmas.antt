@@ -59,7 +59,7 @@ before_colon (a ∷ x) [] s t none also e = absurd (none.0 (ap (λ l. get_or l 0
 before_colon (a ∷ x) (b ∷ y) s t none also e =
     ap (λ (o : ℕ). o ∷ x) (ap (λ l. get_or l 0 0) e) ∙ ap (λ (l : List ℕ). b ∷ l) (before_colon x y s t none.1 also.1 (ap (λ l. drop 1 l) e))
 
--- a group with a colon behind it
+-- a group with a colon after it
 abbrev ended : ℕ → List ℕ
 ended n = hex n ++ 58 ∷ []
 
@@ -70,7 +70,7 @@ module _ (a b : ℕ) (fits : a < 2 ^ 16) (also : b < 2 ^ 16) (differ : a ≢ b) 
       let same : hex a ≡ hex b = before_colon (hex a) (hex b) s t (no_colons a fits) (no_colons b also) apart in
       differ (sym (hex_again a fits) ∙ ap (digits_value 16) same ∙ hex_again b also)
 
-  -- groups that differ decide, whatever stands behind their colons
+  -- groups that differ decide, whatever stands after their colons
   pub group_decides : (u v : List ℕ) → by_octets (ended a) (ended b) ≡ by_octets (hex a ++ 58 ∷ u) (hex b ++ 58 ∷ v)
   group_decides u v =
       sym (parted (ended a) (ended b) u v groups_part) ∙ ap (λ l. by_octets l (ended b ++ v)) (append_assoc (hex a) (58 ∷ []) u) ∙ ap (λ l. by_octets (hex a ++ 58 ∷ u) l) (append_assoc (hex b) (58 ∷ []) v)
@@ -78,7 +78,7 @@ module _ (a b : ℕ) (fits : a < 2 ^ 16) (also : b < 2 ^ 16) (differ : a ≢ b) 
   pub groups_differ : by_octets (ended a) (ended b) ≢ Equal
   groups_differ even = groups_part [] [] (ap (λ (l : List ℕ). l ++ []) (octets_exact (ended a) (ended b) even))
 
--- ---- groups with a colon behind each
+-- ---- groups with a colon after each
 
 abbrev pub all_ended : List ℕ → List ℕ
 all_ended groups = flat_map ended groups
@@ -98,17 +98,17 @@ first_group_decides order a b xs ys decides differs u v =
 
 -- ---- groups with colons between them
 
--- behind the first
+-- after the first
 more_groups : (xs : List ℕ) (l : ℕ) → flat_map (λ t. 58 ∷ hex t) (xs ++ l ∷ []) ≡ 58 ∷ (all_ended xs ++ hex l)
 more_groups [] l = ap (λ (t : List ℕ). 58 ∷ t) (append-nil (hex l))
 more_groups (x ∷ xs) l = rw (more_groups xs l, front_ended x xs (hex l)) refl
 
--- all but the last have a colon behind them
+-- all but the last have a colon after them
 pub groups_ended : (xs : List ℕ) (l : ℕ) → groups_text (xs ++ l ∷ []) ≡ all_ended xs ++ hex l
 groups_ended [] l = append-nil (hex l)
 groups_ended (x ∷ xs) l = rw (more_groups xs l, front_ended x xs (hex l)) refl
 
--- and so has the last, where a colon comes behind it
+-- and so has the last, where a colon comes after it
 behind_groups : (xs w : List ℕ) → flat_map (λ t. 58 ∷ hex t) xs ++ 58 ∷ w ≡ 58 ∷ (all_ended xs ++ w)
 behind_groups [] w = refl
 behind_groups (x ∷ xs) w = rw (append_assoc (hex x) (flat_map (λ t. 58 ∷ hex t) xs) (58 ∷ w), behind_groups xs w, front_ended x xs w) refl
@@ -116,7 +116,7 @@ behind_groups (x ∷ xs) w = rw (append_assoc (hex x) (flat_map (λ t. 58 ∷ he
 groups_before : (x : ℕ) (xs w : List ℕ) → groups_text (x ∷ xs) ++ 58 ∷ w ≡ all_ended (x ∷ xs) ++ w
 groups_before x xs w = rw (append_assoc (hex x) (flat_map (λ t. 58 ∷ hex t) xs) (58 ∷ w), behind_groups xs w, front_ended x xs w) refl
 
--- groups before two colons are in order as those with a colon behind each
+-- groups before two colons are in order as those with a colon after each
 pub fronts_decide : (order : Ordering) (xs ys : List ℕ) → length xs ≡ length ys → ((u v : List ℕ) → ordering_then order (by_octets u v) ≡ by_octets (all_ended xs ++ u) (all_ended ys ++ v)) → (u v : List ℕ) → ordering_then order (by_octets u v) ≡ by_octets (groups_text xs ++ 58 ∷ 58 ∷ u) (groups_text ys ++ 58 ∷ 58 ∷ v)
 fronts_decide order [] [] count decides u v = decides u v
 fronts_decide order [] (y ∷ ys) count decides u v = absurd (omega arith)
@@ -171,7 +171,7 @@ module _ (xs ys : List ℕ) (run : ℕ × ℕ) (one : longest_zero_run xs ≡ ru
   evens_decide short =
       ap (λ l. by_octets l (groups_text ys)) (even_text xs run one short) ∙ ap (by_octets (hex_groups_text xs)) (even_text ys run other short)
 
-  -- addresses of which the same run of zeros is left out: the groups before it decide, and then those behind it
+  -- addresses of which the same run of zeros is left out: the groups before it decide, and then those after it
   pub cuts_decide : (order : Ordering) → length xs ≡ length ys → 2 ≤ run.1 → ((u v : List ℕ) → ordering_then order (by_octets u v) ≡ by_octets (all_ended (take run.0 xs) ++ u) (all_ended (take run.0 ys) ++ v)) → ordering_then order (by_octets (groups_text (drop (run.0 + run.1) xs)) (groups_text (drop (run.0 + run.1) ys))) ≡ by_octets (hex_groups_text xs) (hex_groups_text ys)
   cuts_decide order count long is =
       let end = run.0 + run.1 in

@@ -130,7 +130,7 @@ group_before ds unit u rest later n is known g e =
       total = omega (arith, sum_by-cons group_seconds first g.groups, seconds, g.total, e);
     }
 
--- where a unit stands, a number stands before it and groups behind it
+-- where a unit stands, a number stands before it and groups after it
 unit_found : (number : Option ℕ) (ds : List ℕ) (octet : ℕ) (rest : List ℕ) (n : ℕ) → AreBefore number ds → ((later : ℕ) → groups_after None rest ≡ Some later → AreGroups rest later)
     → option_and_then (λ k. option_and_then (λ u. option_map (λ later. k * u + later) (groups_after None rest)) (unit_seconds octet)) number ≡ Some n → AreGroups (ds ++ octet ∷ rest) n
 unit_found None ds octet rest n h more e = absurd (none-some n e)
@@ -139,7 +139,7 @@ unit_found (Some k) ds octet rest n h more e =
     map_some (λ later. k * u + later) (groups_after None rest) n f λ later after g.
     group_before ds octet u rest later n h.0 known (more later after) (ap (λ (v : ℕ). v * u + later) h.1 ∙ g)
 
--- what is read as groups, behind digits that were read before
+-- what is read as groups, after digits that were read before
 groups_found : (text : List ℕ) (number : Option ℕ) (ds : List ℕ) (n : ℕ) → AreBefore number ds → groups_after number text ≡ Some n → AreGroups (ds ++ text) n
 unfolding groups_after
 groups_found [] None ds n h e = rw h (no_groups n e)
@@ -179,7 +179,7 @@ duration_found most text n e =
 
 -- ---- durations that are written
 
--- digits are read before what stands behind them
+-- digits are read before what stands after them
 digits_read : (ds : List ℕ) (k : ℕ) (rest : List ℕ) → AllDigits 10 ds → groups_after (Some k) (ds ++ rest) ≡ groups_after (Some (digits_value_after 10 k ds)) rest
 unfolding groups_after
 digits_read [] k rest h = refl
@@ -213,12 +213,12 @@ digit_no_unit c h =
 unit_no_digit : (c : ℕ) → IsSome (unit_seconds c) → is_ascii_digit c ≡ false
 unit_no_digit c h = false_from_ne_true (is_ascii_digit c) (λ d. both_ways (is_some (unit_seconds c)) (digit_no_unit c d) h)
 
--- the step at a unit, behind a number
+-- the step at a unit, after a number
 unit_read : (k unit u : ℕ) (rest : List ℕ) (later : ℕ) → is_ascii_digit unit ≡ false → unit_seconds unit ≡ Some u → groups_after None rest ≡ Some later → groups_after (Some k) (unit ∷ rest) ≡ Some (k * u + later)
 unfolding groups_after
 unit_read k unit u rest later no_digit known h = rw no_digit (rw known (rw h refl))
 
--- a group is read before what is read behind it
+-- a group is read before what is read after it
 group_read : (group : Group) (rest : List ℕ) (later : ℕ) → IsGroup group → groups_after None rest ≡ Some later → groups_after None (group_text group ++ rest) ≡ Some (group_seconds group + later)
 group_read group rest later is h =
     ap (groups_after None) (append_assoc group.digits (group.unit ∷ []) rest) ∙ number_read group.digits (group.unit ∷ rest) is.number

@@ -68,7 +68,7 @@ alike_min : (limit a b total : ℕ) → Alike limit a b → min (total + a) limi
 alike_min limit a b total (inl e) = ap (λ (k : ℕ). min (total + k) limit) e
 alike_min limit a b total (inr h) = omega arith
 
--- behind an octet that is no digit
+-- after an octet that is no digit
 unit_alike : (limit a b : ℕ) (unit later : Option ℕ) → Alike limit a b
     → AlikeSums limit (option_and_then (λ u. option_map (λ (l : ℕ). a * u + l) later) unit) (option_and_then (λ u. option_map (λ (l : ℕ). b * u + l) later) unit)
 unit_alike limit a b None later h = tt

@@ -63,7 +63,7 @@ abbrev list_rises : List ℕ → Bool
 list_rises [] = true
 list_rises (x ∷ l) = list_all (λ y. nat_lt x y) l && list_rises l
 
--- each number less than all behind it
+-- each number less than all after it
 abbrev Rises : List ℕ → Type 0
 Rises [] = ⊤
 Rises (x ∷ l) = AllByRecursion (λ y. x < y) l × Rises l

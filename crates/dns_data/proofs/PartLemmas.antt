@@ -10,9 +10,9 @@ use Rattle.dns_data.specs.Rdata.{data_with}
 use Rattle.dns_data.specs.Reading.{Field, field, value_of, values_at, data_of_values, data_at}
 use Rattle.dns_data.proofs.EachLemmas.{refuses_on}
 
--- ---- the first field, and those behind it
+-- ---- the first field, and those after it
 
--- values behind a first one
+-- values after a first one
 abbrev pub behind : {A V : Type 0} → A → Field V → Field (A × V)
 behind x others = others >>= λ v. Ok ((x, v.0), v.1)
 
@@ -27,7 +27,7 @@ module _ (origin : Option (List (List ℕ))) (kind : Kind) (fields : Fields) (it
   pub refused_behind : (e : DataFault) → Refuses e (values_at origin fields rest) → Refuses e (values_at origin (kind ▸ fields) items)
   refused_behind e h = refuses_on e (values_at origin fields rest) (values_at origin (kind ▸ fields) items) h (λ f bad. first_is ∙ ap (behind x) bad)
 
--- ---- the first two fields, and those behind them
+-- ---- the first two fields, and those after them
 
 module _ (origin : Option (List (List ℕ))) (a b : Kind) (fields : Fields) where
   abbrev pub with_two : Field (Values (a ▸ b ▸ End)) → Field (Values (a ▸ b ▸ fields))

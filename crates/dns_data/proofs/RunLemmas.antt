@@ -106,7 +106,7 @@ rest_plain octets e = by_test (ltb (run_len octets) (length octets)) refl e
 
 -- ---- a step
 
--- a run and the octet behind it
+-- a run and the octet after it
 run_parts : (octets : List ℕ) (at : ℕ) → at < length octets → (take at octets ++ get_or octets at 0 ∷ []) ++ drop (at + 1) octets ≡ octets
 run_parts octets at lt =
     append_assoc (take at octets) (get_or octets at 0 ∷ []) (drop (at + 1) octets) ∙ ap (λ (l : List ℕ). take at octets ++ l) (sym (drop_more octets at 0 lt)) ∙ take-append-drop at octets

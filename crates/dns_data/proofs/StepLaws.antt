@@ -14,7 +14,7 @@ pub guard_ok : {A : Type 0} (b : Bool) (d : DataFault) (x y : A) → cond b (Err
 guard_ok true d x y e = absurd cc
 guard_ok false d x y e = (refl, cc)
 
--- a step behind a test that did not fail
+-- a step after a test that did not fail
 pub guarded_ok : {A : Type 0} (b : Bool) (d : DataFault) (r : Result A DataFault) (y : A) → cond b (Err d) r ≡ Ok y → (b ≡ false) × (r ≡ Ok y)
 guarded_ok true d r y e = absurd cc
 guarded_ok false d r y e = (refl, e)

@@ -35,7 +35,7 @@ split_parts rest part after n e f = rw (e, f) (take-append-drop n rest)
 abbrev pub quoted : List ℕ → List ℕ
 quoted string = 34 ∷ string_text string ++ 34 ∷ []
 
--- a string behind another
+-- a string after another
 abbrev pub behind : List ℕ → List ℕ
 behind string = 32 ∷ quoted string
 

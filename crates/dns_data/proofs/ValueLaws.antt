@@ -32,7 +32,7 @@ value_found origin is Seconds raw v bytes e = seconds_value raw v e
 value_found origin is Ipv4 raw v bytes e = ipv4_sound raw v e
 value_found origin is Ipv6 raw v bytes e = ipv6_sound raw v e
 
--- what was read, with nothing left behind it
+-- what was read, with nothing left after it
 at_end : {X : Type 0} (x y : X) (rest : List ItemText) → done {A = X × List ItemText} (x, rest) ≡ done (y, []) → (x ≡ y) × (rest ≡ [])
 at_end {X} x y rest e = let same = ok_is (x, rest) (y, []) e in (ap (λ (q : X × List ItemText). q.0) same, ap (λ (q : X × List ItemText). q.1) same)
 

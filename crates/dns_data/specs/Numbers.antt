@@ -34,7 +34,7 @@ unit_seconds unit =
     else (if u == 109 then Some 60
     else (if u == 115 then Some 1 else None))))
 
--- a number with a unit behind it
+-- a number with a unit after it
 pub record Group : Type 0 where
   pub digits : List ℕ
   pub unit : ℕ
@@ -49,14 +49,14 @@ group_text group = group.digits ++ group.unit ∷ []
 abbrev pub group_seconds : Group → ℕ
 group_seconds group = digits_value 10 group.digits * unwrap_or (unit_seconds group.unit) 0
 
--- a number of seconds, or one or more numbers with a unit behind each, summed
+-- a number of seconds, or one or more numbers with a unit after each, summed
 abbrev pub IsDuration : List ℕ → ℕ → Type 0
 IsDuration text n =
     IsNumber text n
     ⊎ ((groups : List Group) × (groups ≢ []) × AllByRecursion IsGroup groups × (text ≡ flat_map group_text groups)
     × (n ≡ sum_by group_seconds groups))
 
--- The sum of groups, behind digits of the first of them that were read already: their number, or `None` before a digit.
+-- The sum of groups, after digits of the first of them that were read already: their number, or `None` before a digit.
 -- `None` where the text is no groups.
 unfoldable pub groups_after : Option ℕ → List ℕ → Option ℕ
 groups_after None [] = Some 0

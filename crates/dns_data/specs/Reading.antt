@@ -1,5 +1,5 @@
 -- What items say as the data of a record of a type: the generic form is not read; then fields from left to right, with the
--- refusal that comes first; then what stands behind the last field, and then the size.
+-- refusal that comes first; then what stands after the last field, and then the size.
 use Rattle.std.specs.Prelude.{ℕ, ◌-◌, ◌^◌, List, [], ◌∷◌, ◌++◌, length, ◌==◌, nat_lt, if◌then◌else◌, Option, Some, None, Result, Ok, Err}
 use Rattle.std.specs.Net.Reader.{whole_value, read_ipv4, read_ipv6}
 use Rattle.std.specs.declared.net.ipv4_addr.Ipv4Addr.{Ipv4Addr}
@@ -91,7 +91,7 @@ digest_at (item ∷ items) = joined (item ∷ items) >>= digest_of
 
 -- ---- data
 
--- the values of fields from left to right, and the items behind them
+-- the values of fields from left to right, and the items after them
 unfoldable pub values_at : Option (List (List ℕ)) → (fields : Fields) → List ItemText → Field (Values fields)
 values_at origin End items = Ok (tt, items)
 values_at origin (kind ▸ fields) items = do
@@ -107,7 +107,7 @@ data_of_values record_type read = read >>= λ v. Ok (data_with record_type v.0, 
 abbrev pub data_at : RecordType → Option (List (List ℕ)) → List ItemText → Field Data
 data_at record_type origin items = by_type (λ t. data_of_values t (values_at origin (fields_of t) items)) record_type
 
--- nothing stands behind the last field
+-- nothing stands after the last field
 abbrev pub ended : Data × List ItemText → Result Data DataFault
 ended read = if length read.1 == 0 then Ok read.0 else Err FieldExtra
 

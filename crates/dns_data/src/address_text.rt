@@ -69,7 +69,7 @@ pub(crate) fn group_text(segment: u16) -> ArrayVec<u8, 48>
     text
 }
 
-/// The text of a segment with a colon behind it.
+/// The text of a segment with a colon after it.
 pub(crate) fn ended_group_text(segment: u16) -> ArrayVec<u8, 48>
     ensures { result.items ≡ hex segment ++ 58 ∷ [] }
 {
@@ -113,7 +113,7 @@ pub(crate) fn longest_zero_run(segments: &[u16]) -> (usize, usize)
     (start, len)
 }
 
-/// The segments before a run and those behind it.
+/// The segments before a run and those after it.
 pub(crate) fn around(segments: &[u16], start: usize, len: usize) -> (&[u16], &[u16])
     requires { start + len ≤ length segments.now }
     ensures before { result.0.now ≡ take start segments.now }

@@ -22,7 +22,7 @@ pub enum DataFault {
     StringTooLong,
     /// The data end before their last field.
     FieldMissing,
-    /// Items stand behind the last field.
+    /// Items stand after the last field.
     FieldExtra,
     /// A type that is not kept here, or data in the generic form of RFC 3597.
     TypeNotKept,

@@ -210,7 +210,7 @@ impl<'a> FieldReader<'a> {
         Ok((self.serial()?, self.durations()?))
     }
 
-    /// Two names, one behind the other.
+    /// Two names, one after the other.
     #[tactic(auto, unfolding(crate::specs::Reading::values_at))]
     fn names(&mut self, alloc: Global, origin: Option<&Name>) -> Result<(Name, Name), DataFault>
         ensures { Reads (λ names. ((names.0, (names.1, tt)), self.new)) result (values_at (option_copied origin.entry) (InName ▸ InName ▸ End) self.old) }

@@ -50,7 +50,7 @@ impl Ttl {
         }
     }
 
-    /// Reads a TTL: a decimal number of seconds, or one or more numbers with a unit behind each (`1h30m`), which are summed,
+    /// Reads a TTL: a decimal number of seconds, or one or more numbers with a unit after each (`1h30m`), which are summed,
     /// else `BadNumber`; more than `MAX` is `NumberRange`.
     pub fn read(text: &[u8]) -> Result<Ttl, DataFault>
         // What is read is a duration that the text writes.
@@ -126,7 +126,7 @@ fn unit_seconds(unit: u8) -> Option<u64>
     }
 }
 
-/// The seconds of one or more numbers with a unit behind each, summed, and `None` where the text is not so. From
+/// The seconds of one or more numbers with a unit after each, summed, and `None` where the text is not so. From
 /// `u64::MAX` on the sum stays there.
 fn seconds_with_units(text: &[u8]) -> Option<u64>
     ensures { result ≡ (if length text.now == 0 then None else option_map (λ n. min n (2 ^ 64 - 1)) (groups_after None text.now)) }
@@ -149,7 +149,7 @@ fn seconds_with_units(text: &[u8]) -> Option<u64>
     if number.is_some() { None } else { Some(total) }
 }
 
-/// Reads a duration: a decimal number of seconds, or one or more numbers with a unit behind each (`1h30m`), which are
+/// Reads a duration: a decimal number of seconds, or one or more numbers with a unit after each (`1h30m`), which are
 /// summed, else `BadNumber`; more than `most` seconds are `NumberRange`.
 pub fn read_duration(text: &[u8], most: u32) -> Result<u32, DataFault>
     ensures { result ≡ duration_of most text.now }

@@ -48,7 +48,7 @@ fn cmp_ipv4(first: Ipv4Addr, second: Ipv4Addr) -> Ordering
     cmp_decimals(u32::from(d), u32::from(h))
 }
 
-/// The order of two groups that differ, by their texts with a colon behind each. What stands behind the colons does not count.
+/// The order of two groups that differ, by their texts with a colon after each. What stands after the colons does not count.
 fn cmp_ended_group(first: u16, second: u16) -> Ordering
     requires { first ≢ second }
     ensures decides { (u v : List ℕ) → result ≡ slice_cmp nat_cmp (hex first ++ 58 ∷ u) (hex second ++ 58 ∷ v) }
@@ -59,7 +59,7 @@ fn cmp_ended_group(first: u16, second: u16) -> Ordering
         .cmp(ended_group_text(second).as_slice())
 }
 
-/// The order of as many groups of two addresses, by their texts with a colon behind each: the first groups that differ decide.
+/// The order of as many groups of two addresses, by their texts with a colon after each: the first groups that differ decide.
 fn cmp_ended_groups(first: &[u16], second: &[u16]) -> Ordering
     requires { length first.now ≡ length second.now }
     ensures { (u v : List ℕ) → ordering_then result (slice_cmp nat_cmp u v) ≡ slice_cmp nat_cmp (flat_map (λ s. hex s ++ 58 ∷ []) first.now ++ u) (flat_map (λ s. hex s ++ 58 ∷ []) second.now ++ v) }
@@ -115,7 +115,7 @@ fn cmp_ipv6(first: Ipv6Addr, second: Ipv6Addr) -> Ordering
     cmp_ended_groups(our_front, their_front).then(cmp_groups(our_back, their_back))
 }
 
-/// The order of two character-strings with a quote behind each, by their texts.
+/// The order of two character-strings with a quote after each, by their texts.
 fn cmp_strings(first: &[u8], second: &[u8]) -> Ordering
     ensures { result ≡ slice_cmp nat_cmp (string_text first.now ++ 34 ∷ []) (string_text second.now ++ 34 ∷ []) }
 {

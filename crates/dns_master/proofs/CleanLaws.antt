@@ -21,7 +21,7 @@ use Rattle.dns_master.specs.Grammar.{Runs, taken_behind}
 
 -- ---- runs
 
--- whether no octet of a text stops, but one that a backslash takes, and none behind the text is taken
+-- whether no octet of a text stops, but one that a backslash takes, and none after the text is taken
 abbrev pub runs : (ℕ → Bool) → Bool → List ℕ → Bool
 runs stops taken [] = not taken
 runs stops true (o ∷ rest) = runs stops false rest
@@ -62,7 +62,7 @@ ordinary_run (o ∷ rest) h =
 
 -- ---- items
 
--- an item that is cut so of any text in which a space or a line end stands behind it
+-- an item that is cut so of any text in which a space or a line end stands after it
 abbrev pub CleanAt : Bool → List ℕ → Type 0
 CleanAt true raw = runs is_quote false raw ≡ true
 CleanAt false [] = ⊥

@@ -10,7 +10,7 @@ pub sum_more : (count : Piece → ℕ) (front : List Piece) (p : Piece) → sum_
 sum_more count [] p = omega arith
 sum_more count (q ∷ front) p = omega (arith, sum_more count front p)
 
--- this is the depth behind these pieces, and it never fell below 0
+-- this is the depth after these pieces, and it never fell below 0
 abbrev IsDepth : List Piece → ℕ → Type 0
 IsDepth front d = sum_of opens front ≡ sum_of closes front + d
 

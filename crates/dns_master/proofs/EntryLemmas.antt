@@ -8,7 +8,7 @@ use Rattle.dns_master.specs.Entries.{Split, is_white_piece, begins_white, ended,
 
 -- ---- one piece
 
--- the test of a chain, and what comes behind it
+-- the test of a chain, and what comes after it
 abbrev Fits : List ℕ → Option (Piece × List ℕ) → Type 0
 Fits rest r = (x : Piece × List ℕ) → r ≡ Some x → length x.1 ≤ length rest
 
@@ -19,7 +19,7 @@ fits_quoted : (rest raw text : List ℕ) → length text ≤ length rest → Fit
 fits_quoted rest raw [] h x e = absurd cc
 fits_quoted rest raw (q ∷ after) h x e = fits_some rest (Quoted raw) after (omega arith) x e
 
--- less is left behind a piece
+-- less is left after a piece
 pub piece_shortens : (o : ℕ) (rest : List ℕ) → Fits rest (piece_at o rest)
 piece_shortens o rest =
     let n = scan ends_item (eqb o 92) rest in

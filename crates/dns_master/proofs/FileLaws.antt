@@ -71,7 +71,7 @@ records_along f g (suc n) i k ((statements.Record stated) ∷ ss) (r ∷ rs) l a
   records_along f g n (suc i) (suc k) ss rs (omega arith) (λ j q. a (suc j) (omega arith)) h.1,
 )
 
--- what is carried behind the first entry
+-- what is carried after the first entry
 carried_behind : (b : InForce) (s : Statement) (ss : List Statement) (n : ℕ) → Agree (carried b (s ∷ ss)) (carried (behind_entry s b) ss) 1 0 n
 carried_behind b s ss n j q = ap (carried b (s ∷ ss)) (on_suc 0 j)
 
@@ -118,7 +118,7 @@ owner_there None None name e = absurd cc
 owner_there None (Some x) name e = tt
 owner_there (Some x) owner name e = tt
 
--- the origin behind an entry is a name
+-- the origin after an entry is a name
 name_behind : (b : InForce) (white : Bool) (items : List ItemText) (s : Statement) → IsName b.origin → States b.origin white items s → IsName (behind_entry s b).origin
 name_behind b white items (statements.Origin name) is h = h.4.0
 name_behind b white items (statements.DefaultTtl ttl) is h = is
@@ -132,7 +132,7 @@ pub record FileRead (b : InForce) (es : List Entry) (rs : List Record) : Type 0 
   pub stated : AreStated (carried b said) 0 (map view es) said
   pub records : AreRecords (carried b said) 0 said rs
 
--- an entry and those behind it
+-- an entry and those after it
 abbrev Split : InForce → Entry → List Entry → List Record → Type 0
 Split b e es rs =
     (s : Statement) × (new others : List Record) × (statement_of b.origin b.owner e.white (map text_of e.items) ≡ Ok s) × (records_of s b ≡ Ok new) × (read_from es (behind_entry s b) ≡ Ok others) × (rs ≡ new ++ others)

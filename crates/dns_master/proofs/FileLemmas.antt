@@ -19,7 +19,7 @@ use Rattle.dns_master.specs.Files.{Taken, taken, with_records, then_entries, rea
 use Rattle.dns_master.specs.FileViews.{RefusesFile, IsFaultBefore}
 use Rattle.dns_master.proofs.ReadLemmas.{entries_none}
 
--- what is left to read makes, behind these records, the whole
+-- what is left to read makes, after these records, the whole
 abbrev pub Continues : Result (List Record) FileFault → InForce → List Record → List ℕ → Type 0
 Continues whole before records rest = with_records records (file_from before (entries rest)) ≡ whole
 

@@ -45,7 +45,7 @@ item_at false (o ∷ raw) c after ps e h more =
     let r = runs_are ends_item false (o ∷ raw) h in
     (c ∷ after, refl, (r.0, (r.1, e)), more)
 
--- items behind the first
+-- items after the first
 abbrev behind_text : List ItemText → List ℕ → List ℕ
 behind_text [] rest = 10 ∷ rest
 behind_text (item ∷ items) rest = 32 ∷ (item_text item ++ behind_text items rest)
@@ -144,7 +144,7 @@ line_ends left u white more line lines w some h = record {
   others = one_entry white h.found.first h.found.others line lines w some h.first h.others;
 }
 
--- items that follow, up to the line's end, and the lines behind it
+-- items that follow, up to the line's end, and the lines after it
 behind_split : (ps : List Placed) (u : ℕ) (items : List ItemText) (lines : List (List ItemText)) → AllByRecursion CleanLine lines → map (λ p. p.piece) ps ≡ behind_first items (lines_pieces lines) → SplitLines items lines (split None ps 0 u)
 unfolding split
 behind_split [] u [] lines h e = absurd cc

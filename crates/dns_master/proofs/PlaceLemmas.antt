@@ -6,7 +6,7 @@ use Rattle.dns_master.specs.Grammar.{spelled, pieces_text}
 use Rattle.dns_master.proofs.EntryLemmas.{piece_shortens}
 use Rattle.dns_master.proofs.FoundLaws.{piece_found}
 
--- a piece stands in a text behind these, where its place says
+-- a piece stands in a text after these, where its place says
 pub record IsPlaced (text : List ℕ) (front : List Piece) (p : Placed) : Type 0 where
   pub after : List ℕ
   pub parts : text ≡ pieces_text front ++ (spelled p.piece ++ after)
@@ -20,7 +20,7 @@ pub pieces_text-more : (front : List Piece) (p : Piece) → pieces_text (front +
 pieces_text-more [] p = append-nil (spelled p)
 pieces_text-more (q ∷ front) p = ap (λ (t : List ℕ). spelled q ++ t) (pieces_text-more front p) ∙ sym (append_assoc (spelled q) (pieces_text front) (spelled p))
 
--- the text behind one more piece
+-- the text after one more piece
 pub text_more : (text : List ℕ) (front : List Piece) (p : Piece) (after : List ℕ) → text ≡ pieces_text front ++ (spelled p ++ after) → text ≡ pieces_text (front ++ p ∷ []) ++ after
 text_more text front p after e =
     e ∙ sym (append_assoc (pieces_text front) (spelled p) after) ∙ ap (λ (t : List ℕ). t ++ after) (sym (pieces_text-more front p))

@@ -37,7 +37,7 @@ one_more : (founds : List Found) (f : Found) (r : Result Split ShapeFault) → (
 one_more founds f (Ok s) = ap (λ (fs : List Found). Ok (record { first = fs; others = s.others })) (sym (append_assoc founds (f ∷ []) s.first))
 one_more founds f (Err e) = refl
 
--- where the first item is, behind one more
+-- where the first item is, after one more
 first_kept : (fs : List Found) (x : Found) (left now : ℕ) → (length fs ≡ 0 → now ≡ x.left) → (0 < length fs → now ≡ left) → ((f : Found) (gs : List Found) → fs ≡ f ∷ gs → f.left ≡ left)
     → (f : Found) (gs : List Found) → fs ++ x ∷ [] ≡ f ∷ gs → f.left ≡ now
 first_kept [] x left now none some at f gs e = let same : f ≡ x = cc in ap (λ (y : Found). y.left) same ∙ sym (none refl)

@@ -1,4 +1,4 @@
--- A record, from its owner and what stands behind it.
+-- A record, from its owner and what stands after it.
 use Rattle.std.proofs.Common.{◌≡◌, ℕ, ◌-◌, ◌≤◌, Bool, false, List, [], ◌∷◌, length, map, take, drop, get_or, Option, Some, None, Result, Ok, Err, refl, sym, ap, ◌∙◌, arith}
 use Rattle.std.proofs.lemmas.List.{drop-map, take_all}
 use Rattle.dns_data.specs.declared.rdata.Data.{Data}
@@ -48,14 +48,14 @@ module _ (origin : List (List ℕ)) (owner : Option (List (List ℕ))) (white : 
   pub record_refused : (e : EntryFault) → RefusesEntry e (behind_of origin (behind_owner white items)) → RefusesEntry e (record_of origin owner white items)
   record_refused e r = rw record_is (refused_on e (behind_of origin (behind_owner white items)) (with_owner own) r)
 
--- ---- what stands behind the owner
+-- ---- what stands after the owner
 
 -- what refuses data refuses the entry
 data_refused : (e : DataFault) (r : Result Data DataFault) → Refuses e r → RefusesEntry (of_data e) (of_datas r)
 data_refused data_faults.NoMemory r h = tt
 data_refused e r h = ap of_datas h
 
--- the data of items behind these
+-- the data of items after these
 abbrev data_at : List (List ℕ) → Lead → List Item → Result Data DataFault
 data_at origin lead items = data_of lead.record_type (Some origin) (map item_of items)
 

@@ -39,7 +39,7 @@ stay_more front [] p h c = (h, c)
 stay_more front (q ∷ ps) p h c =
     (h.0, stay_more (front ++ q ∷ []) ps p h.1 (subst (λ (qs : List Piece). 0 < depth_behind qs) (sym (append_assoc front (q ∷ []) (ps ++ p ∷ []))) c))
 
--- the outermost parenthesis that is open behind these pieces, and its line
+-- the outermost parenthesis that is open after these pieces, and its line
 pub record IsOutermost (text : List ℕ) (front : List Piece) (left : ℕ) : Type 0 where
   pub outside : List Piece
   pub inside : List Piece
@@ -94,7 +94,7 @@ positive : (d : ℕ) → eqb d 0 ≡ false → 0 < d
 positive zero e = absurd cc
 positive (suc d) e = omega arith
 
--- what is left behind the pieces where a quote stays open
+-- what is left after the pieces where a quote stays open
 rest_left : (ps : List Piece) (left : ℕ) (text : List ℕ) → ArePieces ps (Some left) text → (rest : List ℕ) × (text ≡ pieces_text ps ++ rest) × (left ≡ length rest)
 rest_left [] left text h = (text, refl, h.3)
 rest_left (p ∷ ps) left text h =

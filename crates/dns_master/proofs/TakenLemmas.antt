@@ -1,4 +1,4 @@
--- A record that an entry states, taken behind those before it.
+-- A record that an entry states, taken after those before it.
 use Rattle.std.proofs.Common.{◌≡◌, ℕ, ◌-◌, ◌<◌, List, [], ◌∷◌, ◌++◌, length, Option, Some, None, option_map, Result, Ok, Err, refl, sym, ap, subst, ◌∙◌, arith, length-append}
 use Rattle.std.proofs.lemmas.Option.{slice_get-get_or}
 use Rattle.std.proofs.Math.Seq.{get_or-append_seam}
@@ -43,7 +43,7 @@ made (Some o) (Some t) rdata r e =
     let same : record { owner = o; ttl = t; rdata = rdata } ≡ r = cc in
     (ap (λ (x : Record). Ok (x ∷ [])) same, ap (λ (x : Record). Some x.owner) same)
 
--- a record that was made so is taken, with its TTL and the MINIMUM behind it
+-- a record that was made so is taken, with its TTL and the MINIMUM after it
 pub record_taken : (old new : FileRead) (stated : StatedRecord) (r : Record)
     → new.origin ≡ old.origin → new.default_ttl ≡ old.default_ttl → new.stated_ttl ≡ option_or stated.ttl old.stated_ttl → new.minimum ≡ option_or (minimum_in stated.rdata) old.minimum → new.records.items ≡ old.records.items ++ r ∷ []
     → completed (record old { minimum = new.minimum }) stated ≡ Ok r → TakesStatement old new (statements.Record stated) (Ok tt)

@@ -46,7 +46,7 @@ bound P Q (Err e) f h k = tt
 
 -- ---- what is split is what the pieces say
 
--- the split of pieces behind these, where the entry that stands open has this number, and has items or none
+-- the split of pieces after these, where the entry that stands open has this number, and has items or none
 pub record IsWalked (text : List ℕ) (open_quote : Option ℕ) (front : List Piece) (entry : ℕ) (filled : Bool) (ps : List Piece) (s : Split) : Type 0 where
   pub quote : open_quote ≡ None
   pub balanced : AreBalanced front ps

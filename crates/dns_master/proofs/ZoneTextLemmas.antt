@@ -1,4 +1,4 @@
--- The lines of records behind another text, line by line.
+-- The lines of records after another text, line by line.
 use Rattle.std.proofs.Common.{◌≡◌, ℕ, suc, ◌+◌, ◌<◌, ◌≤◌, List, [], ◌∷◌, ◌++◌, length, take, drop, get_or, Some, None, sym, ap, ◌∙◌, arith, append_assoc, append-nil, take-append-drop}
 use Rattle.std.proofs.lemmas.List.{take_all}
 use Rattle.std.proofs.lemmas.Grind.{flat_map-append}
@@ -23,14 +23,14 @@ module _ (line : Record → List ℕ) where
   text_next front xs i x h e =
       ap (λ (lines : List ℕ). front ++ lines) (lines_next xs i x h e) ∙ sym (append_assoc front (flat_map line (take i xs)) (line x))
 
-  -- and what stands behind it
+  -- and what stands after it
   pub text_cut : (front : List ℕ) (xs : List Record) (i : ℕ) → front ++ flat_map line xs ≡ text_before front xs i ++ flat_map line (drop i xs)
   text_cut front xs i =
       ap (λ (ys : List Record). front ++ flat_map line ys) (sym (take-append-drop i xs))
       ∙ ap (λ (lines : List ℕ). front ++ lines) (flat_map-append line (take i xs) (drop i xs))
       ∙ sym (append_assoc front (flat_map line (take i xs)) (flat_map line (drop i xs)))
 
-  -- behind the last record nothing does
+  -- after the last record nothing does
   pub text_all : (front : List ℕ) (xs : List Record) (i : ℕ) → length xs ≤ i → text_before front xs i ≡ front ++ flat_map line xs
   text_all front xs i h = ap (λ (ys : List Record). front ++ flat_map line ys) (take_all i xs h)
 
@@ -41,7 +41,7 @@ pub relative_none : (origin : List (List ℕ)) (records : List Record) → None 
 relative_none origin [] e = append-nil (origin_line origin)
 relative_none origin (r ∷ records) e = absurd cc
 
--- else the two lines, and the lines of the records behind them
+-- else the two lines, and the lines of the records after them
 pub relative_some : (form : RelativeForm) (records : List Record) (first : Record) (head : List ℕ) → Some first ≡ slice_get records 0 → form.ttl ≡ first.ttl → head ≡ origin_line form.origin.now ++ ttl_line form.ttl
     → head ++ flat_map (line_in (Some form)) records ≡ relative_zone_text form.origin.now records
 relative_some form [] first head e ttl is = absurd cc

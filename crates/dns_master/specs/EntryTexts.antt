@@ -27,12 +27,12 @@ abbrev pub with_entry_text : Bool → List ItemText → List EntryText → List 
 with_entry_text white [] others = others
 with_entry_text white (item ∷ items) others = (record { white = white; items = item ∷ items }) ∷ others
 
--- the items up to the first line end outside parentheses, and the entries behind it that are not blank
+-- the items up to the first line end outside parentheses, and the entries after it that are not blank
 pub record CutEntries : Type 0 where
   pub first : List ItemText
   pub others : List EntryText
 
--- a line end outside parentheses ends an entry, and the next begins behind it
+-- a line end outside parentheses ends an entry, and the next begins after it
 abbrev pub cut_line : Bool → Bool → CutEntries → CutEntries
 cut_line outside white cut = if outside then record { first = []; others = with_entry_text white cut.first cut.others } else cut
 
@@ -40,7 +40,7 @@ abbrev pub cut_piece : List Piece → Piece → Bool → CutEntries → CutEntri
 cut_piece front LineEnd white cut = cut_line (depth_behind front == 0) white cut
 cut_piece front p white cut = record { first = piece_items p ++ cut.first; others = cut.others }
 
--- pieces behind these, cut at the line ends outside parentheses
+-- pieces after these, cut at the line ends outside parentheses
 abbrev pub cut_behind : List Piece → List Piece → CutEntries
 cut_behind front [] = record { first = []; others = [] }
 cut_behind front (p ∷ ps) = cut_piece front p (first_white ps) (cut_behind (front ++ p ∷ []) ps)

@@ -9,7 +9,7 @@ use Rattle.dns_master.specs.EntryTexts.{EntryText, AreEntries}
 use Rattle.dns_master.specs.InForce.{InForce, AreInForce, or_else, ttl_in_force}
 use Rattle.dns_master.specs.EntryGrammar.{States}
 
--- A record, by what is in force before its entry and behind it: its owner is the one stated, else the last one stated.
+-- A record, by what is in force before its entry and after it: its owner is the one stated, else the last one stated.
 pub record IsRecordOf (stated : StatedRecord) (before behind : InForce) (r : Record) : Type 0 where
   pub owner : or_else stated.owner before.owner ≡ Some r.owner
   pub ttl : ttl_in_force stated.ttl before behind ≡ Some r.ttl

@@ -21,7 +21,7 @@ use Rattle.dns_master.specs.Files.{Taken, or_refused, records_of}
 abbrev pub last_owner : List Record → Option (List (List ℕ))
 last_owner records = option_map (λ r. r.owner) (slice_get records (length records - 1))
 
--- what is in force behind the entries that were read
+-- what is in force after the entries that were read
 abbrev pub force_of : FileRead → InForce
 force_of f = record { origin = f.origin; owner = last_owner f.records.items; default_ttl = f.default_ttl; stated_ttl = f.stated_ttl; minimum = f.minimum }
 
@@ -62,7 +62,7 @@ abbrev pub GivesFile : {X Y : Type 0} → (X → Y) → Result X FileFault → R
 GivesFile view (Ok x) read = read ≡ Ok (view x)
 GivesFile view (Err e) read = RefusesFile e read
 
--- the fault of an entry that is refused, unless parentheses or quotes are wrong in the text behind it
+-- the fault of an entry that is refused, unless parentheses or quotes are wrong in the text after it
 abbrev pub IsFaultBefore : ℕ → EntryFault → List ℕ → FileFault → Type 0
 IsFaultBefore left fault rest (Shape shape) = RefusesAt shape (entries rest)
 IsFaultBefore left fault rest (Entry here refused) = (here ≡ left) × (refused ≡ fault) × ((es : List EntryOf) × (entries rest ≡ Ok es))

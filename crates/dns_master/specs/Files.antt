@@ -33,7 +33,7 @@ records_of (statements.Record stated) before =
     Ok ((record { owner = owner; ttl = ttl; rdata = stated.rdata }) ∷ [])
 records_of statement before = Ok []
 
--- what is in force behind an entry, and its record
+-- what is in force after an entry, and its record
 abbrev pub Taken : Type 0
 Taken = InForce × List Record
 
@@ -54,7 +54,7 @@ abbrev pub with_records : List Record → Result (List Record) FileFault → Res
 with_records records (Ok others) = Ok (records ++ others)
 with_records records (Err fault) = Err fault
 
--- an entry, and then the records of the entries behind it
+-- an entry, and then the records of the entries after it
 abbrev pub then_entries : ℕ → Result Taken EntryFault → (InForce → Result (List Record) FileFault) → Result (List Record) FileFault
 then_entries left (Err fault) more = Err (AtEntry left fault)
 then_entries left (Ok t) more = with_records t.1 (more t.0)

@@ -9,7 +9,7 @@ Runs stops taken [] = Unit {0}
 Runs stops true (o ∷ rest) = Runs stops false rest
 Runs stops false (o ∷ rest) = (stops o ≡ false) × Runs stops (o == 92) rest
 
--- whether the octet behind these is taken by a backslash
+-- whether the octet after these is taken by a backslash
 abbrev pub taken_behind : Bool → List ℕ → Bool
 taken_behind taken [] = taken
 taken_behind true (o ∷ rest) = taken_behind false rest
@@ -52,7 +52,7 @@ Stands (Quoted raw) after = Runs is_quote false raw × (taken_behind false raw �
 Stands (Plain []) after = ⊥
 Stands (Plain (o ∷ raw)) after = Runs ends_item false (o ∷ raw) × Ends ends_item (taken_behind false (o ∷ raw)) after
 
--- what is left behind all pieces: nothing, or a quote that stays open
+-- what is left after all pieces: nothing, or a quote that stays open
 abbrev pub Rests : Option ℕ → List ℕ → Type 0
 Rests None text = text ≡ []
 Rests (Some left) text = (body : List ℕ) × (text ≡ 34 ∷ body) × Runs is_quote false body × (left ≡ length text)

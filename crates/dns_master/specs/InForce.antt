@@ -86,7 +86,7 @@ abbrev pub origin_or : Option (List (List ℕ)) → List (List ℕ) → List (Li
 origin_or None origin = origin
 origin_or (Some name) origin = name
 
--- what is in force behind an entry
+-- what is in force after an entry
 abbrev pub behind_entry : Statement → InForce → InForce
 behind_entry s before = record {
   origin = origin_or (origin_said s) before.origin;

@@ -33,7 +33,7 @@ abbrev pub NextPart : Position → Option Item → Position → Type 0
 NextPart place None after = (after.depth ≡ 0) × (from_place place ≡ (from 0 0 after.rest.now >>= λ s. Ok (end_of (white_first after.rest.now) s)))
 NextPart place (Some item) after = from_place place ≡ (from_place after >>= λ s. Ok (add (found item after) s))
 
--- the first item that is left of an entry, or its end, and the place behind it
+-- the first item that is left of an entry, or its end, and the place after it
 abbrev pub NextItem : Position → Position → Result (Option Item) ShapeFault → Type 0
 NextItem place after (Ok item) = NextPart place item after
 NextItem place after (Err e) = RefusesAt e (from_place place)
@@ -43,7 +43,7 @@ abbrev pub Shorter : Position → Option Item → Position → Type 0
 Shorter place None after = 0 < length place.rest.now → length after.rest.now < length place.rest.now
 Shorter place (Some item) after = length after.rest.now < length place.rest.now
 
--- what is left behind a call, which a loop goes on with
+-- what is left after a call, which a loop goes on with
 pub record Shrunk (place : Position) (item : Option Item) (after : Position) : Type 0 where
   pub shorter : Shorter place item after
   pub no_longer : length after.rest.now ≤ length place.rest.now
@@ -61,7 +61,7 @@ Shrinks place after (Err e) = Unit {0}
 abbrev pub text_of : Found → ItemText
 text_of f = f.item
 
--- these are the items of the first entry, so many octets are left from the first of them on, and this is the text behind it
+-- these are the items of the first entry, so many octets are left from the first of them on, and this is the text after it
 pub record EntryRead (text : List ℕ) (items : List Item) (left : ℕ) (rest : List ℕ) : Type 0 where
   pub founds : List Found
   pub texts : map text_of founds ≡ map item_of items
@@ -73,7 +73,7 @@ abbrev pub ReadsEntry : List ℕ → List Item → Result EntryEnd ShapeFault �
 ReadsEntry text items (Ok end) = EntryRead text items end.left end.rest.now
 ReadsEntry text items (Err e) = RefusesAt e (entries text)
 
--- the text behind an entry is shorter, unless there was none
+-- the text after an entry is shorter, unless there was none
 abbrev pub ShorterRest : List ℕ → Result EntryEnd ShapeFault → Type 0
 ShorterRest text (Ok end) = 0 < length text → length end.rest.now < length text
 ShorterRest text (Err e) = Unit {0}

@@ -7,7 +7,7 @@ use Rattle.dns_master.specs.Grammar.{pieces_text, ArePieces}
 use Rattle.dns_master.specs.Lines.{line_ends}
 use Rattle.dns_master.specs.Depth.{depth_behind, AreOpened, StayOpen}
 
--- the line that goes on behind pieces
+-- the line that goes on after pieces
 abbrev pub line_behind : List Piece → ℕ
 line_behind front = suc (line_ends (pieces_text front))
 

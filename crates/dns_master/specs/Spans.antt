@@ -13,7 +13,7 @@ abbrev pub IsSlice : List ℕ → TokenText → Type 0
 IsSlice text t =
     (front after : List ℕ) × (text ≡ front ++ (item_text t.item ++ after)) × (t.start ≡ length front + quotes t) × (t.line ≡ suc (line_ends front))
 
--- each begins, with its quotes, where the one before has ended, or behind that; the first behind so many octets
+-- each begins, with its quotes, where the one before has ended, or after that; the first after so many octets
 abbrev pub AreInOrder : ℕ → List TokenText → Type 0
 AreInOrder end [] = Unit {0}
 AreInOrder end (t ∷ ts) = (end + quotes t ≤ t.start) × AreInOrder (t.start + length t.item.raw + quotes t) ts

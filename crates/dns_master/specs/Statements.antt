@@ -21,7 +21,7 @@ begins_with_dollar (o ∷ rest) = o == 36
 abbrev pub is_directive : ItemText → Bool
 is_directive item = begins_with_dollar item.raw && not item.quoted
 
--- nothing stands behind the item of a directive
+-- nothing stands after the item of a directive
 abbrev pub no_more : List ItemText → Result (Unit {0}) EntryFault
 no_more [] = Ok tt
 no_more (item ∷ items) = Err (Data FieldExtra)
@@ -45,14 +45,14 @@ directive_of origin name items =
     if str_eq_ignore_ascii_case name (codes "$ORIGIN") then origin_of origin items
     else (if str_eq_ignore_ascii_case name (codes "$TTL") then default_ttl_of items else Err DirectiveNotKept)
 
--- the owner that is stated; none behind white space, where one must be in force
+-- the owner that is stated; none after white space, where one must be in force
 abbrev pub owner_of : List (List ℕ) → Option (List (List ℕ)) → Bool → List ItemText → Result (Option (List (List ℕ))) EntryFault
 owner_of origin None true items = Err NoOwner
 owner_of origin (Some owner) true items = Ok None
 owner_of origin owner false [] = Err EntryShort
 owner_of origin owner false (item ∷ items) = name_at origin item >>= λ name. Ok (Some name)
 
--- the items behind the owner
+-- the items after the owner
 abbrev pub behind_owner : Bool → List ItemText → List ItemText
 behind_owner true items = items
 behind_owner false [] = []

@@ -24,17 +24,17 @@ token_of t = record { item = item_of t.item; start = t.start; line = t.line; ent
 
 -- ---- by the pieces of the text
 
--- the token of an item whose own octets stand behind this text
+-- the token of an item whose own octets stand after this text
 abbrev pub token_behind : List ℕ → ItemText → ℕ → TokenText
 token_behind text item entry = record { item = item; start = length text; line = suc (line_ends text); entry = entry }
 
--- the token of a piece behind these, if it is an item
+-- the token of a piece after these, if it is an item
 abbrev pub item_tokens : List Piece → ℕ → Piece → List TokenText
 item_tokens front entry (Quoted raw) = token_behind (pieces_text front ++ 34 ∷ []) (in_quotes raw) entry ∷ []
 item_tokens front entry (Plain raw) = token_behind (pieces_text front) (plain raw) entry ∷ []
 item_tokens front entry p = []
 
--- whether the entry that stands open behind one more piece has items: none has where a line end of depth 0 ended the last
+-- whether the entry that stands open after one more piece has items: none has where a line end of depth 0 ended the last
 abbrev pub filled_behind : List Piece → Bool → Piece → Bool
 filled_behind front filled LineEnd = if depth_behind front == 0 then false else filled
 filled_behind front filled (Quoted raw) = true
@@ -46,7 +46,7 @@ abbrev pub entry_behind : List Piece → ℕ → Bool → Piece → ℕ
 entry_behind front entry filled LineEnd = if depth_behind front == 0 && filled then suc entry else entry
 entry_behind front entry filled p = entry
 
--- the tokens of pieces behind these, where the entry that stands open has this number, and has items or none
+-- the tokens of pieces after these, where the entry that stands open has this number, and has items or none
 abbrev pub tokens_behind : List Piece → ℕ → Bool → List Piece → List TokenText
 tokens_behind front entry filled [] = []
 tokens_behind front entry filled (p ∷ ps) =

@@ -128,7 +128,7 @@ impl<T: Write, L: Ledger> Sink for Counted<T, L> {
 /// gives one octet at least, until the end.
 #[derive(Drop)]
 pub struct Pieces {
-    /// What there is to read, and what was written behind it.
+    /// What there is to read, and what was written after it.
     pub octets: Vec<u8>,
     /// How many of the octets were read.
     pub read: usize,
@@ -144,7 +144,7 @@ pub struct Pieces {
 impl Pieces {
     ghost use Rattle.dns_master.specs.Device.{TurnsOnce};
 
-    /// Octets to read or to write behind, at most so many in a call, of which the one of this number fails.
+    /// Octets to read or to write after, at most so many in a call, of which the one of this number fails.
     pub fn new(octets: Vec<u8>, most: usize, fails: usize) -> Pieces
         ensures octets { result.octets ≡ octets }
         ensures none_read { result.read ≡ 0 }

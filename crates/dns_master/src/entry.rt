@@ -10,7 +10,7 @@ use dns_data::Item;
 /// Where an entry ends, and where it began.
 #[derive(Clone, Copy)]
 pub(crate) struct EntryEnd<'a> {
-    /// The text behind the entry.
+    /// The text after the entry.
     pub rest: &'a [u8],
     /// How many octets are left from its first item on, and 0 where it is blank.
     pub left: usize,

@@ -22,7 +22,7 @@ pub(crate) enum EntryFault {
     DirectiveNotKept,
     /// A malformed TTL.
     BadTtl,
-    /// A name, the type or the data, or an item behind a directive.
+    /// A name, the type or the data, or an item after a directive.
     Data(DataFault),
     /// The entry ends before its type, or a directive before its item.
     EntryShort,

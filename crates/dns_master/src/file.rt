@@ -88,7 +88,7 @@ fn minimum_in(rdata: &Data) -> Option<u32>
     }
 }
 
-/// The records that were read, and what is in force behind them. The owner in force is that of the last of them.
+/// The records that were read, and what is in force after them. The owner in force is that of the last of them.
 #[derive(Drop)]
 struct FileRead {
     origin: Name,
@@ -252,7 +252,7 @@ fn begins_white(text: &[u8]) -> bool
     }
 }
 
-/// The fault of an entry that is refused, unless parentheses or quotes are wrong in the text behind it.
+/// The fault of an entry that is refused, unless parentheses or quotes are wrong in the text after it.
 fn fault_before<'a>(
     rest: &'a [u8],
     items: &mut Vec<Item<'a>>,
@@ -302,7 +302,7 @@ fn reveal_octets(text: &[u8])
 /// Of several refusals the first of these is answered: `TooLarge` above 4,194,304 octets; `ParenOpen`, `ParenClose` and
 /// `QuoteOpen`, wherever in the text they are, as `tokens` has them; and then those of the first entry at fault, with the line
 /// of its first item: `NoOwner`; the leftmost item at fault, `DirectiveNotKept`, `BadTtl`, `ClassNotIn` or `Data`; an item that is
-/// missing, `EntryShort` before the type and `Data` behind it; a fault of the data as a whole, `Data`; `NoTtl`. `NoMemory`
+/// missing, `EntryShort` before the type and `Data` after it; a fault of the data as a whole, `Data`; `NoTtl`. `NoMemory`
 /// comes at the growth that was refused.
 pub fn read_file(alloc: Global, text: &[u8], origin: &Name) -> Result<Vec<Record>, MasterFault>
     // What is read are the records of the text.

@@ -28,7 +28,7 @@ pub enum MasterFault {
     DirectiveNotKept(usize),
     /// A malformed TTL (RFC 2181 section 8).
     BadTtl(usize),
-    /// The type, a name or the data of a record, or an item behind a directive.
+    /// The type, a name or the data of a record, or an item after a directive.
     Data {
         /// The line of the entry's first item.
         line: usize,

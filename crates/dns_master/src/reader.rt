@@ -44,7 +44,7 @@ impl<'a> Position<'a> {
     }
 }
 
-/// The item of a text behind its opening quote, and the text behind the closing one, or the quote that stays open.
+/// The item of a text after its opening quote, and the text after the closing one, or the quote that stays open.
 #[inline]
 fn quoted_item(text: &[u8]) -> Result<(Item<'_>, &[u8]), ShapeFault>
     requires { length text.now < 2 ^ 64 - 1 }
@@ -61,7 +61,7 @@ fn quoted_item(text: &[u8]) -> Result<(Item<'_>, &[u8]), ShapeFault>
     }
 }
 
-/// The unquoted item at the front of a text, and the text behind it.
+/// The unquoted item at the front of a text, and the text after it.
 #[inline]
 fn plain_item(text: &[u8]) -> (Item<'_>, &[u8])
     ensures item { item_of result.0 ≡ plain (take (scan ends_item false text.now) text.now) }
@@ -72,7 +72,7 @@ fn plain_item(text: &[u8]) -> (Item<'_>, &[u8])
 }
 
 impl<'a> Position<'a> {
-    /// Goes on behind the next item of the entry, or behind the entry's end, where it answers `None`.
+    /// Goes on after the next item of the entry, or after the entry's end, where it answers `None`.
     pub(crate) fn next_item(&mut self) -> Result<Option<Item<'a>>, ShapeFault>
         requires { self.old.depth + length self.old.rest.now < 2 ^ 64 }
         ensures exact { NextItem self.old self.new result }

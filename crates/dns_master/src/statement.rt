@@ -49,7 +49,7 @@ fn is_directive(item: Item) -> bool
     }
 }
 
-/// Refuses items that stand behind a directive's own.
+/// Refuses items that stand after a directive's own.
 fn no_more(items: &[Item]) -> Result<(), EntryFault>
     ensures { Tells (λ _. tt) result (no_more (map item_of items.now)) }
 {
@@ -60,7 +60,7 @@ fn no_more(items: &[Item]) -> Result<(), EntryFault>
     }
 }
 
-/// The name behind `$ORIGIN`, relative to the origin in force.
+/// The name after `$ORIGIN`, relative to the origin in force.
 fn read_origin(alloc: Global, items: &[Item], origin: &Name) -> Result<Statement, EntryFault>
     ensures { Tells (λ s. s) result (origin_of origin.now (map item_of items.now)) }
 {
@@ -79,7 +79,7 @@ fn read_ttl_item(item: Item) -> Result<Ttl, EntryFault>
     read_ttl(unquoted(item)?)
 }
 
-/// The TTL behind `$TTL`.
+/// The TTL after `$TTL`.
 fn read_default_ttl(items: &[Item]) -> Result<Statement, EntryFault>
     ensures { Tells (λ s. s) result (default_ttl_of (map item_of items.now)) }
 {
@@ -91,7 +91,7 @@ fn read_default_ttl(items: &[Item]) -> Result<Statement, EntryFault>
     Ok(Statement::DefaultTtl(ttl))
 }
 
-/// A directive of this name, in either letter case, with the items behind it.
+/// A directive of this name, in either letter case, with the items after it.
 fn read_directive(
     alloc: Global,
     name: &[u8],
@@ -130,7 +130,7 @@ fn read_owner(
     }
 }
 
-/// The items behind the owner.
+/// The items after the owner.
 fn behind_owner<'a>(entry: EntryItems<'a>) -> &'a [Item<'a>]
     ensures { map item_of result.now ≡ behind_owner entry.entry.white (map item_of entry.entry.items.now) }
 {
@@ -140,7 +140,7 @@ fn behind_owner<'a>(entry: EntryItems<'a>) -> &'a [Item<'a>]
     }
 }
 
-/// The TTL, if there is one, and the data of a record from the items behind its owner.
+/// The TTL, if there is one, and the data of a record from the items after its owner.
 fn read_behind(
     alloc: Global,
     items: &[Item],

@@ -47,7 +47,7 @@ fn origin_head(alloc: Global, origin: &Name) -> Result<String, AllocError>
     format!(in alloc; "$ORIGIN {origin}\n")
 }
 
-/// What the lines of records leave out: the origin behind each owner, and the TTL that is in force.
+/// What the lines of records leave out: the origin after each owner, and the TTL that is in force.
 #[derive(Clone, Copy)]
 struct RelativeForm<'a> {
     origin: &'a Name,

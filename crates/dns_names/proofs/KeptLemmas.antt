@@ -16,7 +16,7 @@ either_false : (a b : Bool) → (a || b) ≡ false → (a ≡ false) × (b ≡ f
 either_false true b e = absurd cc
 either_false false b e = (refl, e)
 
--- one more behind those that are kept, which has a place or is left out
+-- one more after those that are kept, which has a place or is left out
 pub keep_more : (room n : ℕ) (row xs : List ℕ) (o : ℕ) → length row ≡ room → n ≡ length xs → take (min n room) row ≡ take room xs → take (min (n + 1) room) (set row n o) ≡ take room (xs ++ o ∷ [])
 keep_more room n row xs o long here kept =
     elim (cases_lt n room) [

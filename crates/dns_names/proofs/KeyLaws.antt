@@ -120,7 +120,7 @@ label_order (a ∷ x) (b ∷ y) s t =
     rw (append_assoc (key_octet a) (label_front x) (0 ∷ s), append_assoc (key_octet b) (label_front y) (0 ∷ t))
     (octet_order a b (label_front x ++ 0 ∷ s) (label_front y ++ 0 ∷ t) ∙ ap (ordering_then (nat_cmp a b)) (label_order x y s t) ∙ then_assoc (nat_cmp a b) (by_octets x y) (by_octets s t))
 
--- a label's key, and what stands behind it
+-- a label's key, and what stands after it
 label_and : (x s : List ℕ) → label_key x ++ s ≡ label_front x ++ 0 ∷ s
 label_and x s = append_assoc (label_front x) (0 ∷ []) s
 
@@ -292,7 +292,7 @@ end_of_other (label ∷ labels) first end is some same =
 
 -- ---- ancestors
 
--- what stands behind a label's key
+-- what stands after a label's key
 behind_front : (label rest : List ℕ) → behind_label (label_front label ++ 0 ∷ rest) ≡ Some rest
 behind_front [] rest = refl
 behind_front (o ∷ label) rest =

@@ -37,7 +37,7 @@ shifted k u v =
       ]
     ]
 
--- and where it ties, what stands behind it
+-- and where it ties, what stands after it
 order : (a b u v p : ℕ) → u < p → v < p → ordering_then (nat_cmp a b) (nat_cmp u v) ≡ nat_cmp (p * a + u) (p * b + v)
 order a b u v p fits also =
     elim (cases_lt a b) [

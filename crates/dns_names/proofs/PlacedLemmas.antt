@@ -15,7 +15,7 @@ module _ (text : List ℕ) (bytes : IsBytes text) (given : Pieces) (read : piece
   found : Found given text
   found = pieces_found text given bytes read
 
-  -- ---- nothing behind the last dot
+  -- ---- nothing after the last dot
 
   module _ (none : length given.last ≡ 0) where
     pub whole_ended : AreEnded given
@@ -30,7 +30,7 @@ module _ (text : List ℕ) (bytes : IsBytes text) (given : Pieces) (read : piece
     pub placed_whole : (origin : List (List ℕ)) → placed_name origin text ≡ fitting (given.ended ++ [])
     placed_whole origin = ap (λ (r : Result Pieces NameFault). r >>= λ p. fitting (placed origin p)) read ∙ rw (eq-eqb (length given.last) 0 none) (ap fitting (sym (append-nil given.ended)))
 
-  -- ---- a label behind it
+  -- ---- a label after it
 
   module _ (some : 0 < length given.last) where
     is_some : is_empty given.last ≡ false

@@ -35,7 +35,7 @@ absolute_from_labels : (name : List (List ℕ)) (octet : ℕ) (rest : List ℕ) 
 absolute_from_labels [] octet rest h = absurd cc
 absolute_from_labels (label ∷ labels) octet rest h = h
 
--- pieces with nothing behind the last dot
+-- pieces with nothing after the last dot
 ended_spells : (p : Pieces) (octet : ℕ) (rest : List ℕ) → SpellsPieces p (octet ∷ rest) → is_empty p.last ≡ true → SpellsAbsolute p.ended (octet ∷ rest)
 ended_spells p octet rest s nothing =
     let last-is : p.last ≡ [] = nil_from_length p.last (eqb-true (length p.last) 0 nothing) in
@@ -93,7 +93,7 @@ absolute_only (label ∷ labels) (octet ∷ rest) is h =
 
 -- ---- relative names
 
--- one more label behind labels, with its dot
+-- one more label after labels, with its dot
 labels_push : (labels : List (List ℕ)) (last front back : List ℕ) → SpellsLabels labels front → SpellsLabel last back → SpellsLabels (labels ++ last ∷ []) ((front ++ back) ++ 46 ∷ [])
 labels_push [] last front back h k = (back, [], ap (λ (t : List ℕ). (t ++ back) ++ 46 ∷ []) h, k, refl)
 labels_push (label ∷ labels) last front back (here, there, parts, spelled, more) k =
@@ -109,7 +109,7 @@ pushed_not_nil (label ∷ labels) last = λ e. cc
 wire_len-short : (labels : List (List ℕ)) → wire_len labels ≤ 255 → AllByRecursion IsLabel labels → IsName labels
 wire_len-short labels short are = record { labels = are; short = short }
 
--- pieces with a label behind the last dot
+-- pieces with a label after the last dot
 placed_spells : (origin : List (List ℕ)) (p : Pieces) (text : List ℕ) → SpellsPieces p text → text ≢ 64 ∷ [] → SpellsRelative origin (p.ended ++ p.last ∷ origin) text
 placed_spells origin p text s other =
     let labels = labels_push p.ended p.last s.front s.back s.labels s.last in

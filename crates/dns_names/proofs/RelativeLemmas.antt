@@ -37,7 +37,7 @@ before_are origin front =
     let many : length (front ++ origin) - length origin ≡ length front = omega (arith, length-append front origin) in
     ap (λ (k : ℕ). take k (front ++ origin)) many ∙ take-append_seam front origin
 
--- a dot before each and one at the end are a dot, and one behind each
+-- a dot before each and one at the end are a dot, and one after each
 dots_shift : (labels : List (List ℕ)) → flat_map dotted_label labels ++ 46 ∷ [] ≡ 46 ∷ flat_map label_text labels
 dots_shift [] = refl
 dots_shift (label ∷ labels) =

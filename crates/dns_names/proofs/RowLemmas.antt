@@ -19,7 +19,7 @@ sum-cons n ns = sum_by-cons (λ (k : ℕ). k) n ns
 pub sum-append : (ns ms : List ℕ) → sum (ns ++ ms) ≡ sum ns + sum ms
 sum-append ns ms = sum_by-append (λ (k : ℕ). k) ns ms
 
--- octets behind the last label don't matter
+-- octets after the last label don't matter
 pub labels_of-append_octets : (ns os ps : List ℕ) → sum ns ≤ length os → labels_of ns (os ++ ps) ≡ labels_of ns os
 labels_of-append_octets [] os ps fits = refl
 labels_of-append_octets (n ∷ ns) os ps fits =
@@ -180,7 +180,7 @@ module _ (name : List (List ℕ)) (lengths row key : List ℕ) (are : AreRowsOf 
   rows_whole =
       omega (arith, ap sum are.lengths_are, ap (length {A = ℕ}) are.lengths_are, length-map name length, sum-lengths name, ap (length {A = ℕ}) are.row_is, length-row name)
 
--- what stands behind the mark of an escape
+-- what stands after the mark of an escape
 pub behind_mark : (memory : List ℕ) → AreRows memory → get_or memory 0 0 ≡ 255 → AreEscaped (take (length memory - 1) (drop 1 memory))
 behind_mark memory are marked =
     let name = name_in memory in
@@ -221,7 +221,7 @@ module _ (memory : List ℕ) (are : memory ≡ plain_rows (name_in memory)) wher
   pub plain_count : get_or memory 0 0 ≡ length (name_in memory)
   plain_count = ap (λ (m : List ℕ). get_or m 0 0) are
 
--- the lengths, and what stands behind them
+-- the lengths, and what stands after them
 module _ (name : List (List ℕ)) (rest more lengths back : List ℕ) (n : ℕ) (whole : rest ≡ map length name ++ more) (many : n ≡ length name) where
   pub lengths_fit : n ≤ length rest
   lengths_fit = omega (arith, ap (length {A = ℕ}) whole, length-append (map length name) more, length-map name length)
@@ -350,7 +350,7 @@ module _ (ns os ms row key : List ℕ) (front tail : List (List ℕ)) (whole : s
   key_total =
       omega (arith, ap (length {A = ℕ}) key_joined, length-append key (key_of front), length-key front, ap (length {A = ℕ}) front_octets, front_labels, ap (count_by (λ (o : ℕ). leb o 1)) front_octets)
 
-  -- memory behind which the lengths and the row were put
+  -- memory after which the lengths and the row were put
   pub rows_joined : (before with_ns with_ms with_row : List ℕ) → with_ns ≡ before ++ ns → with_ms ≡ with_ns ++ ms → with_row ≡ with_ms ++ row
       → with_row ++ row_of front ≡ before ++ (map length (front ++ tail) ++ row_of (front ++ tail))
   rows_joined before with_ns with_ms with_row a b c =

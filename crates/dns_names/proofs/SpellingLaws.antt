@@ -38,7 +38,7 @@ pub cut_dot_alone : cut (46 ∷ []) ≡ Ok (made ([] ∷ []) [])
 unfolding symbols_within
 cut_dot_alone = refl
 
--- pieces of what stands behind the first symbol give those of the text
+-- pieces of what stands after the first symbol give those of the text
 pub cut_cons : (octet : ℕ) (rest : List ℕ) (s : Symbol) (after : List ℕ) (p : Pieces) → symbol_at (octet ∷ rest) ≡ Ok (s, after) → cut after ≡ Ok p → cut (octet ∷ rest) ≡ Ok (with_symbol s p)
 cut_cons octet rest s after p e h =
     let b = bind_ok (symbols after) (λ all. Ok (pieces all)) p h in
@@ -46,7 +46,7 @@ cut_cons octet rest s after p e h =
     let made_of : pieces (s ∷ b.0) ≡ with_symbol s p = pieces_cons s b.0 ∙ ap (with_symbol s) (ok_is (pieces b.0) p b.2) in
     ap (λ (r : Result (List Symbol) NameFault). r >>= λ all. Ok (pieces all)) all ∙ ap (λ (q : Pieces). Ok q) made_of
 
--- a text that was cut, by its first symbol and what stands behind it
+-- a text that was cut, by its first symbol and what stands after it
 pub record CutFirst (octet : ℕ) (rest : List ℕ) (p : Pieces) : Type 0 where
   pub first : Symbol
   pub after : List ℕ

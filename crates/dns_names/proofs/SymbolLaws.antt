@@ -108,7 +108,7 @@ abbrev pub SpellsSymbol : Symbol → List ℕ → Type 0
 SpellsSymbol Dot text = text ≡ 46 ∷ []
 SpellsSymbol (Octet octet) text = SpellsOctet octet text
 
--- a text that begins with a symbol, and goes on as it goes on behind it
+-- a text that begins with a symbol, and goes on as it goes on after it
 pub record Splits (text : List ℕ) (x : Symbol × List ℕ) : Type 0 where
   pub front : List ℕ
   pub parts : text ≡ front ++ x.1
@@ -162,7 +162,7 @@ Spelled-some (Octet o) front (inl h) = rw h.2 (omega arith)
 Spelled-some (Octet o) front (inr (inl h)) = rw h.1 (omega arith)
 Spelled-some (Octet o) front (inr (inr h)) = rw h.1 (omega arith)
 
--- so less is left behind it
+-- so less is left after it
 pub symbol_shortens : (octet : ℕ) (rest : List ℕ) (s : Symbol) (after : List ℕ) → symbol_at (octet ∷ rest) ≡ Ok (s, after) → length after ≤ length rest
 symbol_shortens octet rest s after e =
     let p = symbol_splits octet rest (s, after) e in
@@ -202,7 +202,7 @@ within_agree (suc m) zero (o ∷ rest) h k = absurd (omega arith)
 within_agree (suc m) (suc n) (o ∷ rest) h k =
     bind_same (symbol_at (o ∷ rest)) _ _ (λ x e. let l = symbol_shortens o rest x.0 x.1 e in ap (λ (r : Result (List Symbol) NameFault). r >>= λ others. Ok (x.0 ∷ others)) (within_agree m n x.1 (omega arith) (omega arith)))
 
--- the symbols of a text are its first and those behind it
+-- the symbols of a text are its first and those after it
 pub symbols_cons : (octet : ℕ) (rest : List ℕ) (s : Symbol) (after : List ℕ) → symbol_at (octet ∷ rest) ≡ Ok (s, after) → symbols (octet ∷ rest) ≡ (symbols after >>= λ others. Ok (s ∷ others))
 unfolding symbols_within
 symbols_cons octet rest s after e =

@@ -121,19 +121,19 @@ first_run label run n e cut =
     let below : k < n = omega (arith, length-take n label) in
     ap is_plain (get_or-take n label k d below) ∙ prefix_len_passes is_plain label k d (omega arith))
 
--- a label that is printed as it stands, and the dot, behind a text
+-- a label that is printed as it stands, and the dot, after a text
 pub plain_label : (before label with_label all : List ℕ) → AllPass is_plain label → with_label ≡ before ++ label → all ≡ with_label ++ 46 ∷ [] → all ≡ before ++ label_text label
 plain_label before label with_label all plain first second =
     rw (second, first) (append_assoc before label (46 ∷ []) ∙ ap (λ (l : List ℕ). before ++ (l ++ 46 ∷ [])) (sym (run_text label plain)))
 
--- a run and an octet behind what was written
+-- a run and an octet after what was written
 pub run_and_octet : (done run : List ℕ) (octet : ℕ) → AllPass is_plain run → (flat_map octet_text done ++ run) ++ octet_text octet ≡ flat_map octet_text (done ++ (run ++ octet ∷ []))
 run_and_octet done run octet plain =
     append_assoc (flat_map octet_text done) run (octet_text octet)
     ∙ ap (λ (l : List ℕ). flat_map octet_text done ++ l) (ap (λ (l : List ℕ). l ++ octet_text octet) (sym (run_text run plain)) ∙ ap (λ (l : List ℕ). flat_map octet_text run ++ l) (sym (append-nil (octet_text octet))) ∙ sym (flat_map-append octet_text run (octet ∷ [])))
     ∙ sym (flat_map-append octet_text done (run ++ octet ∷ []))
 
--- a last run behind what was written
+-- a last run after what was written
 pub last_run : (done run label : List ℕ) → AllPass is_plain run → done ++ run ≡ label → flat_map octet_text done ++ run ≡ flat_map octet_text label
 last_run done run label plain whole =
     ap (λ (l : List ℕ). flat_map octet_text done ++ l) (sym (run_text run plain)) ∙ sym (flat_map-append octet_text done run) ∙ ap (flat_map octet_text) whole

@@ -28,7 +28,7 @@ by_octets = slice_cmp nat_cmp
 
 -- ---- rows that part
 
--- two rows no ends of which make them one: what stands behind them does not count
+-- two rows no ends of which make them one: what stands after them does not count
 pub parted : (x y u v : List ℕ) → ((s t : List ℕ) → x ++ s ≡ y ++ t → ⊥) → by_octets (x ++ u) (y ++ v) ≡ by_octets x y
 parted [] y u v part = absurd (part y [] (sym (append-nil y)))
 parted (a ∷ x) [] u v part = absurd (part [] (a ∷ x) (append-nil (a ∷ x)))
@@ -45,7 +45,7 @@ parted (a ∷ x) (b ∷ y) u v part =
 parted_differ : (x y : List ℕ) → ((s t : List ℕ) → x ++ s ≡ y ++ t → ⊥) → by_octets x y ≢ Equal
 parted_differ x y part e = part [] [] (ap (λ (l : List ℕ). l ++ []) (octets_exact x y e))
 
--- equal octets leave it to those behind them
+-- equal octets leave it to those after them
 pub tied_front : (front u v : List ℕ) → by_octets (front ++ u) (front ++ v) ≡ by_octets u v
 tied_front [] u v = refl
 tied_front (o ∷ front) u v = rw (tied o) (tied_front front u v)
@@ -55,7 +55,7 @@ then_first Less o differ = refl
 then_first Equal o differ = absurd (differ refl)
 then_first Greater o differ = refl
 
--- ---- rows that are printed octet by octet, with a last octet behind them
+-- ---- rows that are printed octet by octet, with a last octet after them
 
 module _ (text : ℕ → List ℕ) (last : ℕ) (octets_part : (a b : ℕ) → a < 256 → b < 256 → a ≢ b → (s t : List ℕ) → text a ++ s ≡ text b ++ t → ⊥) (last_parts : (b : ℕ) → b < 256 → (s t : List ℕ) → last ∷ s ≡ text b ++ t → ⊥) where
   abbrev printed : List ℕ → List ℕ

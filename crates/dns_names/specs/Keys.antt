@@ -23,12 +23,12 @@ label_key label = label_front label ++ 0 ∷ []
 abbrev pub key_of : List (List ℕ) → List ℕ
 key_of name = flat_map label_key (reverse name)
 
--- the first key behind those of the names within a name: the name's own with its last octet 0 made 1; none behind the root's
+-- the first key after those of the names within a name: the name's own with its last octet 0 made 1; none after the root's
 abbrev pub key_end : List (List ℕ) → Option (List ℕ)
 key_end [] = None
 key_end (label ∷ labels) = Some (key_of labels ++ (label_front label ++ 1 ∷ []))
 
--- a key stands at the first or behind it, and before the end
+-- a key stands at the first or after it, and before the end
 abbrev pub IsInRange : List ℕ → Option (List ℕ) → List ℕ → Type 0
 IsInRange first end key =
     IsTrue (is_le (slice_cmp nat_cmp first key)) × IfSome end (λ behind. IsTrue (is_lt (slice_cmp nat_cmp key behind)))

@@ -22,7 +22,7 @@ numbered a b c =
     let number = 100 * (a - 48) + 10 * (b - 48) + (c - 48) in
     if is_ascii_digit b && is_ascii_digit c && nat_le number 255 then Ok number else Err BadEscape
 
--- the octet that an escape stands for, from the text behind the backslash, and the text after the escape
+-- the octet that an escape stands for, from the text after the backslash, and the text after the escape
 abbrev pub escaped : List ℕ → Result (Symbol × List ℕ) NameFault
 escaped [] = Err BadEscape
 escaped (a ∷ []) = if is_ascii_digit a then Err BadEscape else Ok (Octet a, [])
@@ -104,7 +104,7 @@ abbrev pub absolute_name : List ℕ → Result (List (List ℕ)) NameFault
 absolute_name [] = Err Empty
 absolute_name (octet ∷ rest) = if octet == 46 && is_empty rest then Ok [] else ended_name (octet ∷ rest)
 
--- the labels of the pieces, and behind a last one that no dot ends those of the origin
+-- the labels of the pieces, and after a last one that no dot ends those of the origin
 abbrev pub placed : List (List ℕ) → Pieces → List (List ℕ)
 placed origin p = if is_empty p.last then p.ended else p.ended ++ p.last ∷ origin
 

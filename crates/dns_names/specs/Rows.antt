@@ -27,11 +27,11 @@ labels_in (len ∷ lengths) row = take len (drop (length row - (len + 1)) row) �
 abbrev pub plain_rows : List (List ℕ) → List ℕ
 plain_rows name = length name ∷ (map length name ++ key_of name)
 
--- of any other, behind a 255: how many labels there are, how long the row is, the labels' lengths, the row, and the key
+-- of any other, after a 255: how many labels there are, how long the row is, the labels' lengths, the row, and the key
 abbrev pub escaped_rows : List (List ℕ) → List ℕ
 escaped_rows name = length name ∷ length (row_of name) ∷ (map length name ++ (row_of name ++ key_of name))
 
--- the name that stands behind a 255
+-- the name that stands after a 255
 abbrev pub escaped_in : List ℕ → List (List ℕ)
 escaped_in [] = []
 escaped_in (count ∷ []) = []
@@ -42,7 +42,7 @@ abbrev pub name_in : List ℕ → List (List ℕ)
 name_in [] = []
 name_in (count ∷ rows) = if count == 255 then escaped_in rows else labels_in (take count rows) (drop count rows)
 
--- memory that holds a name behind a 255
+-- memory that holds a name after a 255
 abbrev pub AreEscaped : List ℕ → Type 0
 AreEscaped rows = rows ≡ escaped_rows (escaped_in rows)
 
@@ -61,7 +61,7 @@ pub record AreRowsOf (name : List (List ℕ)) (lengths row key : List ℕ) : Typ
   pub row_is : row ≡ row_of name
   pub key_is : key ≡ key_of name
 
--- what stands behind the first octet 0 of a key, which ends the key of a label
+-- what stands after the first octet 0 of a key, which ends the key of a label
 abbrev pub behind_label : List ℕ → Option (List ℕ)
 behind_label [] = None
 behind_label (octet ∷ rest) = if octet == 0 then Some rest else behind_label rest
@@ -90,7 +90,7 @@ abbrev pub Keeps : PieceRows → Result (Unit {0}) NameFault → Result Pieces N
 Keeps rows (Ok done) read = (given : Pieces) × (read ≡ Ok given) × AreKept rows given
 Keeps rows (Err fault) read = Refuses fault read
 
--- one octet more behind the last dot
+-- one octet more after the last dot
 abbrev pub with_octet : Pieces → ℕ → Pieces
 with_octet given octet = record { ended = given.ended; last = given.last ++ octet ∷ [] }
 
@@ -98,7 +98,7 @@ with_octet given octet = record { ended = given.ended; last = given.last ++ octe
 abbrev pub with_dot : Pieces → Pieces
 with_dot given = record { ended = given.ended ++ given.last ∷ []; last = [] }
 
--- no label that a dot ends is empty or too long, and nothing stands behind the last dot
+-- no label that a dot ends is empty or too long, and nothing stands after the last dot
 pub record AreEnded (given : Pieces) : Type 0 where
   pub some : list_any is_empty given.ended ≡ false
   pub short : list_any is_long given.ended ≡ false

@@ -10,7 +10,7 @@ use std::marker::Model;
 #[derive(Drop)]
 pub struct Labels<'a> {
     lengths: &'a [u8],
-    /// The labels from the right to the left, with an octet 0 behind each.
+    /// The labels from the right to the left, with an octet 0 after each.
     row: &'a [u8],
 }
 

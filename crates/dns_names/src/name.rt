@@ -169,7 +169,7 @@ impl Name {
         }
     }
 
-    /// The name of a text that is more than a dot or an at, with the labels of an origin behind a last one that no dot ends,
+    /// The name of a text that is more than a dot or an at, with the labels of an origin after a last one that no dot ends,
     /// or the refusal that comes first.
     fn placed(alloc: Global, text: &[u8], origin: &Name) -> Result<Name, NameFault>
         ensures { Reads (λ name. name) result (placed_name origin.now text.now) }

@@ -19,7 +19,7 @@ fn keep(row: &mut [u8], place: usize, octet: u8)
     }
 }
 
-/// The labels that dots end, and what stands behind the last dot. Letters are folded. Octets and lengths are kept as far as
+/// The labels that dots end, and what stands after the last dot. Letters are folded. Octets and lengths are kept as far as
 /// a name has room for them: 254 octets, and 127 labels of one octet each.
 #[derive(Drop)]
 pub(crate) struct PieceRows {
@@ -30,7 +30,7 @@ pub(crate) struct PieceRows {
     pub total: usize,
     /// How many labels dots end.
     pub ended: usize,
-    /// How many octets stand behind the last dot.
+    /// How many octets stand after the last dot.
     pub last: usize,
     /// Whether a label that a dot ends is empty.
     pub has_empty: bool,
@@ -56,7 +56,7 @@ impl PieceRows {
         }
     }
 
-    /// Puts an octet behind the last dot.
+    /// Puts an octet after the last dot.
     fn push(&mut self, octet: u8)
         requires total { self.old.total + 1 < 2 ^ 64 }
         requires last { self.old.last + 1 < 2 ^ 64 }

@@ -13,7 +13,7 @@ use std::marker::Model;
 /// What stands in place of the number of labels in a name with an octet 0 or 1, which has a row beside its key.
 pub(crate) const ESCAPED: u8 = 255;
 
-/// The lengths of a name's labels, the labels from the right to the left with an octet 0 behind each, and the name's key. The
+/// The lengths of a name's labels, the labels from the right to the left with an octet 0 after each, and the name's key. The
 /// last two are one in a name without an octet 0 or 1.
 #[derive(Drop)]
 pub(crate) struct Rows<'a> {
@@ -42,7 +42,7 @@ impl<'a> Rows<'a> {
         }
     }
 
-    /// Those that stand in memory: behind an octet, which says how many labels there are, or behind three, which say that the
+    /// Those that stand in memory: after an octet, which says how many labels there are, or after three, which say that the
     /// key has escapes, how many labels there are and how long their row is.
     pub fn cut(memory: &'a [u8]) -> Rows<'a>
         requires { AreRows memory.now }
@@ -114,7 +114,7 @@ impl<'a> NewLabels<'a> {
     }
 }
 
-/// What stands behind the key of the first label, where there is one.
+/// What stands after the key of the first label, where there is one.
 pub(crate) fn behind_label(key: &[u8]) -> Option<&[u8]>
     ensures { option_copied result ≡ behind_label key.now }
 {
@@ -142,7 +142,7 @@ fn escapes(octets: &[u8]) -> usize
     octets.iter().filter(|octet| **octet <= 1).count()
 }
 
-/// Puts an octet of a label behind a key. The only error is out of memory.
+/// Puts an octet of a label after a key. The only error is out of memory.
 fn push_octet(key: &mut Vec<u8>, octet: u8) -> Result<(), AllocError>
     ensures { OnOk result (key.new.items ≡ key.old.items ++ key_octet octet) }
 {
@@ -154,7 +154,7 @@ fn push_octet(key: &mut Vec<u8>, octet: u8) -> Result<(), AllocError>
     Ok(())
 }
 
-/// Puts the octets of a label behind a key. The only error is out of memory.
+/// Puts the octets of a label after a key. The only error is out of memory.
 fn push_label(key: &mut Vec<u8>, label: &[u8]) -> Result<(), AllocError>
     ensures { OnOk result (key.new.items ≡ key.old.items ++ label_front label.now) }
 {
@@ -167,7 +167,7 @@ fn push_label(key: &mut Vec<u8>, label: &[u8]) -> Result<(), AllocError>
     Ok(())
 }
 
-/// Puts the key of labels behind that of a name that they stand before. The only error is out of memory.
+/// Puts the key of labels after that of a name that they stand before. The only error is out of memory.
 fn push_key(key: &mut Vec<u8>, labels: &NewLabels) -> Result<(), AllocError>
     ensures { OnOk result (key.new.items ≡ key.old.items ++ key_of labels.now) }
 {
@@ -179,7 +179,7 @@ fn push_key(key: &mut Vec<u8>, labels: &NewLabels) -> Result<(), AllocError>
     Ok(())
 }
 
-/// Puts the row of labels behind that of a name that they stand before. The only error is out of memory.
+/// Puts the row of labels after that of a name that they stand before. The only error is out of memory.
 fn push_row(row: &mut Vec<u8>, labels: &NewLabels) -> Result<(), AllocError>
     ensures { OnOk result (row.new.items ≡ row.old.items ++ row_of labels.now) }
 {

@@ -31,7 +31,7 @@ fn octet_numbered(a: u8, b: u8, c: u8) -> Result<u8, NameFault>
     Ok(number as u8)
 }
 
-/// The octet that an escape stands for and the text after it, of a text that begins behind the backslash.
+/// The octet that an escape stands for and the text after it, of a text that begins after the backslash.
 fn after_backslash(text: &[u8]) -> Result<(Symbol, &[u8]), NameFault>
     ensures { Reads (λ x. (x.0, x.1.now)) result (escaped text.now) }
 {

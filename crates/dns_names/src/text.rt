@@ -98,7 +98,7 @@ fn write_label<W: fmt::Write>(f: &mut fmt::Formatter<W>, label: &[u8]) -> fmt::R
 /// The most octets of the text of a name without escapes.
 const PLAIN_MAX: usize = 255;
 
-/// Puts a label and a dot behind a text, where each octet is printed as it stands and there is room.
+/// Puts a label and a dot after a text, where each octet is printed as it stands and there is room.
 fn push_plain(text: &mut ArrayString<PLAIN_MAX>, label: &[u8]) -> Option<()>
     ensures { IfSome result (λ _. text.new.bytes ≡ text.old.bytes ++ label_text label.now) }
 {

@@ -12,7 +12,7 @@ use crate::name::Name;
 use crate::text::spelling;
 use std::cmp::Ordering;
 
-/// The order of two labels with a dot behind each, by their texts.
+/// The order of two labels with a dot after each, by their texts.
 fn cmp_labels(first: &[u8], second: &[u8]) -> Ordering
     ensures { result ≡ slice_cmp nat_cmp (label_text first.now) (label_text second.now) }
 {

@@ -23,7 +23,7 @@ same_Some a b e = cc
 
 -- ---- the decision is one
 
--- behind a rule that does not match
+-- after a rule that does not match
 later : (p : Question) (rule : Rule) (rules : List Rule) (v : Verdict) → ¬ Matches p rule → IsDecision p rules v → IsDecision p (rule ∷ rules) v
 later p rule rules v not (inl (i, found, first, is)) =
     inl (suc i, found, record { at = first.at; matching = first.matching; first = λ j earlier lt at. before j earlier lt at }, is)

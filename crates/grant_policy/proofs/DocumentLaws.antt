@@ -197,7 +197,7 @@ module _ (number : ℕ) (ms : Members) where
       ∙ bind_step (needed number ms key.Types) (d6 d.id d.effect d.caller d.scope d.at) d.types (needed_only number ms key.Types d.types has.types)
       ∙ bind_step (needed number ms key.Actions) (d7 d.id d.effect d.caller d.scope d.at d.types) d.actions (needed_only number ms key.Actions d.actions has.actions)
 
-  -- where a key is missing, behind others that are there
+  -- where a key is missing, after others that are there
   pub no_id : (fault : PolicyFault) → needed number ms key.Id ≡ Err fault → rule_data number ms ≡ Err fault
   no_id fault e = bind_stop (needed number ms key.Id) d1 fault e
 
@@ -324,7 +324,7 @@ module _ (number : ℕ) (ids : List (List ℕ)) (d : RuleData) where
       ∙ bind_step (selection_in type_of (place.Key number key.Types) d.types) (r7 rule.id rule.effect rule.callers rule.scope rule.at) rule.types (selection_only type_of IsCalled type_spelled (place.Key number key.Types) rule.types d.types is.types)
       ∙ bind_step (selection_in action_of (place.Key number key.Actions) d.actions) (r8 rule.id rule.effect rule.callers rule.scope rule.at rule.types) rule.actions (selection_only action_of (λ x text. action_text x ≡ text) action_spelled (place.Key number key.Actions) rule.actions d.actions is.actions)
 
-  -- where a value is refused, behind others that are read
+  -- where a value is refused, after others that are read
   pub bad_text : (fault : PolicyFault) → word_in identifier_of (place.Key number key.Id) d.id ≡ Err fault → rule_in number ids d ≡ Err fault
   bad_text fault e = bind_stop (word_in identifier_of (place.Key number key.Id) d.id) r1 fault e
 

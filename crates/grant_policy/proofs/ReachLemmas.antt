@@ -271,7 +271,7 @@ module _ (rules : List Rule) (caller : List ℕ) (action : Action) (origin : Lab
       (λ (left : SomeGrants asked (drop n rules)). absurd (subst (SomeGrants asked) (drop_all n rules past) left))
       (all.each name record_type w (some_grants asked rules granted))
 
-  -- the rules behind the last
+  -- the rules after the last
   past_all : (n : ℕ) (above : Labels) → length rules ≤ n → All (Keeps above) (drop n rules)
   past_all n above past = subst (All (Keeps above)) (sym (drop_all n rules past)) (All-nil (Keeps above))
 
@@ -283,7 +283,7 @@ module _ (rules : List Rule) (caller : List ℕ) (action : Action) (origin : Lab
       (reach_none (reach_of caller action origin rule) (λ above. All-head (Keeps above) rule rs (all above)))
       (reach_nothing rs (λ above. All-tail (Keeps above) rule rs (all above)))
 
-  -- behind the last rule
+  -- after the last rule
   pub all_reached : (reach : Option Labels) (n : ℕ) → length rules ≤ n → ReachesSoFar rules caller action origin (drop n rules) reach → IsReach rules caller action origin reach
   all_reached None n past all =
       record {

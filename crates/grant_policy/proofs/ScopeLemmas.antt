@@ -45,7 +45,7 @@ within_self name = ([], refl)
 pub within_trans : (a b c : List (List ℕ)) → IsWithin a b → IsWithin b c → IsWithin a c
 within_trans a b c (f, e) (g, h) = (f ++ g, e ∙ ap (λ (l : List (List ℕ)). f ++ l) h ∙ sym (append_assoc f g c))
 
--- a name within another is that one, or has it behind a first label
+-- a name within another is that one, or has it after a first label
 tail_of : {X : Type 0} (x y : X) (xs ys : List X) → x ∷ xs ≡ y ∷ ys → xs ≡ ys
 tail_of x y xs ys e = cc
 

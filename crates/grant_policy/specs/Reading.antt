@@ -34,7 +34,7 @@ use Rattle.grant_policy.specs.Faults.{of_name, ◌>>=◌}
 abbrev pub is_among : List ℕ → List (List ℕ) → Bool
 is_among id ids = list_any (λ other. bytes_eq id other) ids
 
--- an id that may be given to the rule of this number, behind rules of other ids
+-- an id that may be given to the rule of this number, after rules of other ids
 abbrev pub free_id : ℕ → List (List ℕ) → List ℕ → Result (List ℕ) PolicyFault
 free_id number ids id =
     if bytes_eq id (codes "closing") then Err (IdReserved number) else (if is_among id ids then Err (IdRepeated number) else Ok id)
@@ -43,7 +43,7 @@ free_id number ids id =
 abbrev pub SameIds : List (List ℕ) → List (List ℕ) → Type 0
 SameIds ids others = (id : List ℕ) → is_among id ids ≡ is_among id others
 
--- rules, in order, behind rules of these ids
+-- rules, in order, after rules of these ids
 abbrev pub free_rules : List (List ℕ) → List Rule → Result (List Rule) PolicyFault
 free_rules ids [] = Ok []
 free_rules ids (rule ∷ rules) = do
@@ -156,7 +156,7 @@ data_of values = record {
   actions = view values.actions.now;
 }
 
--- the rule that values make, behind rules of these ids
+-- the rule that values make, after rules of these ids
 abbrev pub rule_in : ℕ → List (List ℕ) → RuleData → Result Rule PolicyFault
 rule_in number ids d = do
   text ← word_in identifier_of (place.Key number key.Id) d.id
@@ -176,7 +176,7 @@ rule_of ids ms = do
   d ← rule_data (length ids + 1) ms
   rule_in (length ids + 1) ids d
 
--- the rules of tables, in order, behind rules of these ids
+-- the rules of tables, in order, after rules of these ids
 abbrev pub rules_of : List (List ℕ) → List Members → Result (List Rule) PolicyFault
 rules_of ids [] = Ok []
 rules_of ids (ms ∷ mss) = do

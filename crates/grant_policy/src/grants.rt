@@ -120,7 +120,7 @@ impl<'a> Grants<'a> {
         }
     }
 
-    /// Counts a question, and looks for the boundaries behind a few of them.
+    /// Counts a question, and looks for the boundaries after a few of them.
     fn count_question(&mut self)
         ensures { self.new ≡ self.old }
     {

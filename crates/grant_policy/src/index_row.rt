@@ -15,7 +15,7 @@ use std::alloc::{AllocError, Global};
 use std::cmp::Ordering;
 use std::marker::Model;
 
-/// The number of a rule, behind its caller, where `None` is every caller, and the key of its name.
+/// The number of a rule, after its caller, where `None` is every caller, and the key of its name.
 #[derive(Drop)]
 pub(crate) struct IndexRow {
     caller: Option<Identifier>,

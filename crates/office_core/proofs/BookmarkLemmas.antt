@@ -1,4 +1,4 @@
--- Bookmarks are right before and after a request, and the changes behind one are those that the caller has not seen.
+-- Bookmarks are right before and after a request, and the changes after one are those that the caller has not seen.
 use Rattle.std.proofs.Common.{◌≡◌, ◌⊎◌, ℕ, suc, ◌+◌, ◌<◌, ◌≤◌, List, [], ◌∷◌, ◌++◌, length, get_or, take, drop, Bool, true, false, cond, not, nat_le, bytes_eq, Option, Some, None, IfSome, inl, inr, ⊎_elim, refl, sym, ap, subst, ◌∙◌, arith, append-nil, length-append, length-drop, option_map, if◌then◌else◌}
 use Rattle.std.specs.List.{All, filter}
 use Rattle.std.proofs.lemmas.Bool.{and_parts, lt-leb}
@@ -56,7 +56,7 @@ module _ (rules : List Rule) (caller : List ℕ) where
   pub first_point : (from : ℕ) (cs : List ChangeOf) → IsStart rules caller from cs (record { read = 0; seen = 0 })
   first_point from cs = record { right = record { read = omega arith; seen = refl }; before = inl refl }
 
-  -- the changes from a number on, behind a point that is before it
+  -- the changes from a number on, after a point that is before it
   pub from_start : (from : ℕ) (cs : List ChangeOf) (point : Point) → IsStart rules caller from cs point
       → filter (λ c. nat_le from c.number) (numbered (point.seen + 1) (seen rules caller (drop point.read cs))) ≡ changes_from rules caller from cs
   from_start from cs point start =
@@ -73,7 +73,7 @@ module _ (rules : List Rule) (caller : List ℕ) where
       ∙ ap (λ (l : List NumberedOf). l ++ filter keeps (numbered (1 + length a) b)) (below_all from 1 a few)
       ∙ ap (λ (m : ℕ). filter keeps (numbered m b)) (let e : 1 + length a ≡ point.seen + 1 = omega (arith, is) in e))
 
-  -- the point behind all changes
+  -- the point after all changes
   pub last_point : (cs behind : List ChangeOf) (began ended : Point) → IsPoint rules caller cs began → behind ≡ drop began.read cs
       → ended.read ≡ began.read + length behind → ended.seen ≡ began.seen + length (seen rules caller behind) → IsPoint rules caller cs ended
   last_point cs behind began ended before is read there =
@@ -89,7 +89,7 @@ module _ (rules : List Rule) (caller : List ℕ) where
             ∙ ap (λ (l : List ChangeOf). length (seen rules caller l)) (sym (take_all ended.read cs (omega (arith, all))));
       }
 
-  -- a point stays where changes come behind
+  -- a point stays where changes come after
   pub point_stays : (cs more : List ChangeOf) (point : Point) → IsPoint rules caller cs point → IsPoint rules caller (cs ++ more) point
   point_stays cs more point is =
       record {
@@ -104,7 +104,7 @@ whose caller origin b e =
     let parts = and_parts (bytes_eq b.caller caller) (same_name b.origin origin) e in
     ((bytes_eq-Decides b.caller caller).0 parts.0, (same_name-Decides b.origin origin).0 parts.1)
 
--- ---- behind a request
+-- ---- after a request
 
 -- each zone was there, and its changes begin with those that it had
 abbrev pub Grows : State → State → Type 0
@@ -159,7 +159,7 @@ bookmark_stays rules s t b grows right after e =
     subst (λ (cs : List ChangeOf). IsPoint rules b.caller cs point) (sym grown.3) (point_stays rules b.caller grown.0.changes grown.2 point is) in
     (stays b.began before.0, stays b.ended before.1)
 
--- bookmarks are right behind a request
+-- bookmarks are right after a request
 pub bookmarks_stay : (rules : List Rule) (s : State) (caller : List ℕ) (request : Request) (rows : List Bookmark)
     → All (IsBookmark rules s) rows → All (IsBookmark rules (step rules s caller request).after) rows
 bookmarks_stay rules s caller request rows right =
@@ -204,7 +204,7 @@ found_start rules s rows i b caller origin from held point right lt is own e sta
     let both = points_of rules s b caller origin here own held e in
     subst (λ (c : List ℕ). IsStart rules c from held.changes point) (whose caller origin b own).0 (starts both.0 both.1)
 
--- ---- what is read behind a point
+-- ---- what is read after a point
 
 -- changes that are read of a zone are those of one that is there
 pub found_behind : (s : State) (origin : List (List ℕ)) (read : List ChangeOf → List ChangeOf) (cs : List ChangeOf) → Some cs ≡ option_map read (changes_at s origin)
@@ -250,7 +250,7 @@ module _ (rules : List Rule) (caller : List ℕ) where
       (b ∙ ap (λ (n : ℕ). began.seen + n) (some ∙ ap (λ (l : List ChangeOf). length l) there))
 
 module _ (holds right : State → Type 0) (rules : List Rule) (s : State) (caller : List ℕ) (request : Request) where
-  -- an answer, with what is right of the state behind it
+  -- an answer, with what is right of the state after it
   pub and_right : (reply : Reply) → IsAnswer reply → (reply_of reply ≡ Some (step rules s caller request).reply) × holds (step rules s caller request).after
       → right (step rules s caller request).after → Steps (λ t. holds t × right t) rules s caller request reply
   and_right (replies.Servfail fault) answers takes after = absurd answers

@@ -12,7 +12,7 @@ counts_none n m (Ok x) same none = same
 counts_none n m (Err Store) same none = absurd cc
 counts_none n m (Err NoMemory) same none = same
 
--- a call of the table within, behind one that neither failed nor changed it
+-- a call of the table within, after one that neither failed nor changed it
 pub reads_within : {X : Type 0} (old mid new : MemoryOf) (n m : ℕ) (r : Result X TableFault) → mid ≡ old → m ≡ n → ReadsOnly HoldsState (λ _. Unit {0}) (λ _ _ _. Unit {0}) (λ _. zero) mid new r
     → ((s : State) → HoldsState old s → HoldsState new s) × (Unit {0} → OnOk r ((s : State) → HoldsState new s → HoldsState old s)) × ((s t : State) → Unit {0} → Unit {0}) × (Unit {0} → Unit {0}) × Counts n m r
 reads_within old mid new n m r same none reads = (

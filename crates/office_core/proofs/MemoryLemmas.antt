@@ -341,7 +341,7 @@ one_receipt m n caller id receipt all kept update is = record {
       (λ f. let there : receipt_among m.receipts c i ≡ Some r = rw f at (sym (kept c i) ∙ e) in is.receipts c i r there);
 }
 
--- ---- what is held behind a call
+-- ---- what is held after a call
 
 -- what is found stays
 pub holds_same : (m n : MemoryOf) (s : State) → ((o : List (List ℕ)) → held_among n.zones o ≡ held_among m.zones o)

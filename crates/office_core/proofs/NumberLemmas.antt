@@ -9,7 +9,7 @@ use Rattle.office_core.specs.Machine.{numbered}
 abbrev pub from_on : ℕ → List NumberedOf → List NumberedOf
 from_on from ns = filter (λ c. nat_le from c.number) ns
 
--- the next change, and then those behind it
+-- the next change, and then those after it
 pub next_numbered : (from n : ℕ) (x : ChangeOf) (xs : List ChangeOf) (before : List NumberedOf) → (before ++ from_on from (numbered n (x ∷ []))) ++ from_on from (numbered (n + 1) xs) ≡ before ++ from_on from (numbered n (x ∷ xs))
 next_numbered from n x xs before =
     let y : NumberedOf = record { number = n; removed = x.removed; added = x.added } in

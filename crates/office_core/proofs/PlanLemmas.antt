@@ -30,7 +30,7 @@ module _ (rules : List Rule) (caller : List ℕ) (origin : List (List ℕ)) (upd
   abbrev zone : ZoneOf
   zone = zone_held origin held
 
-  -- behind the turn of an update that is refused, or not
+  -- after the turn of an update that is refused, or not
   planned : (refused : Option UpdateReply) (reply : UpdateReply) (change : Option ChangeOf) → Makes zone update refused reply change
       → IsPlanned s origin reply change (answered s caller id origin update refused)
   planned (Some r) reply change makes = record {

@@ -62,7 +62,7 @@ module _ (g : GrantsOf) (lists : g.action ≡ action.List) where
   seen_both : (cs : List ChangeOf) (n m : ℕ) → seen rules caller (take (n + m) cs) ≡ seen rules caller (take n cs) ++ seen rules caller (take m (drop n cs))
   seen_both cs n m = ap (λ (l : List ChangeOf). seen rules caller l) (take-add n m cs) ∙ flat_map-append (λ (c : ChangeOf). if_some (seen_of rules caller c)) (take n cs) (take m (drop n cs))
 
-  -- of the changes so many were looked at, so many more are hidden, and of those behind at most so many are a piece
+  -- of the changes so many were looked at, so many more are hidden, and of those after at most so many are a piece
   module _ (cs piece sees : List ChangeOf) (k n most : ℕ) (up : k ≤ length cs) (so_far : sees ≡ seen rules caller (take k cs)) (hidden : AreHidden g (drop k cs) n) (is : piece ≡ take most (drop (k + n) cs)) where
     past : k + n ≤ length cs
     past = omega (arith, up, hidden.there, length-drop k cs)

@@ -111,7 +111,7 @@ pub on_ok : {X E : Type 0} {P Q : X → Type 0} (r : Result X E) → ((x : X) �
 on_ok (Ok x) then p = then x p
 on_ok (Err e) then p = tt
 
--- a function behind another
+-- a function after another
 pub fused : {X Y Z : Type 0} (f : X → Y) (g : Y → Z) (o : Option X) → option_map (λ x. g (f x)) o ≡ option_map g (option_map f o)
 fused f g None = refl
 fused f g (Some x) = refl

@@ -48,7 +48,7 @@ all_front P (x ∷ xs) ys all = (all.0, all_front P xs ys all.1)
 before_all : (x y : Record) (rs : List Record) → record_order x y ≡ Less → AllByRecursion (λ z. record_order y z ≡ Less) rs → AllByRecursion (λ z. record_order x z ≡ Less) rs
 before_all x y rs less all = all_map (λ z. record_order y z ≡ Less) (λ z. record_order x z ≡ Less) rs (λ z e. record_order_total.trans x y z less e) all
 
--- a row behind another, by the last of this and the first of that
+-- a row after another, by the last of this and the first of that
 pub join_order : (xs ys : List Record) (d : Record) → InOrder xs → InOrder ys
     → ((k : ℕ) → k + 1 ≡ length xs → 0 < length ys → record_order (get_or xs k d) (get_or ys 0 d) ≡ Less) → InOrder (xs ++ ys)
 unfolding IsStrictlySortedBy
@@ -120,7 +120,7 @@ owner_le a b less =
     not_above (canonical_cmp a.owner b.owner) (canonical_cmp b.owner b.owner) (tied_itself canonical_total b.owner)
     (by_owner (a ∷ b ∷ []) (two_in_order a b less) b.owner 0 1 a (omega arith) (omega arith))
 
--- ---- two tests, of which none of the first passes behind one of the second
+-- ---- two tests, of which none of the first passes after one of the second
 
 nothing : (p : Record → Bool) (rs : List Record) → AllByRecursion (λ r. p r ≡ false) rs → filter p rs ≡ []
 nothing p [] fails = refl

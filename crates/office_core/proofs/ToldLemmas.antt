@@ -22,7 +22,7 @@ use Rattle.office_core.proofs.ListLemmas.{in_filter, if_granted}
 
 -- ---- places in lists
 
--- what passes a test stands, among all that passes, behind as many as pass before it
+-- what passes a test stands, among all that passes, after as many as pass before it
 module _ {X : Type 0} (P : X → Type 0) (p : X → Bool) (tells : (x : X) → (p x ≡ true) ↔ P x) where
   fails : (x : X) → p x ≡ false → ¬ P x
   fails x f has = let bad : true ≡ false = sym ((tells x).1 has) ∙ f in cc

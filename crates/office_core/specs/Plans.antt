@@ -11,7 +11,7 @@ use Rattle.office_model.specs.Replies.{to_update}
 use Rattle.office_model.specs.States.{State, zone_at, changes_at}
 use Rattle.office_core.specs.Machine.{Turn, step}
 
--- a turn replies so to an update of the zone of an origin, and notes this change behind the changes that there were
+-- a turn replies so to an update of the zone of an origin, and notes this change after the changes that there were
 pub record IsPlanned (s : State) (origin : List (List ℕ)) (reply : UpdateReply) (change : Option ChangeOf) (turn : Turn) : Type 0 where
   pub replied : turn.reply ≡ to_update reply
   pub noted : changes_at turn.after origin ≡ option_map (λ cs. cs ++ option_to_list change) (changes_at s origin)

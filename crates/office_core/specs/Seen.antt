@@ -7,7 +7,7 @@ use Rattle.office_model.specs.States.{Held}
 use Rattle.office_core.specs.declared.changes.Seen.{Seen}
 use Rattle.office_core.specs.Machine.{seen}
 
--- the changes behind the first ones, so many, were read up to a point, and the caller sees this of them
+-- the changes after the first ones, so many, were read up to a point, and the caller sees this of them
 pub record IsSeenUpTo (grants : GrantsOf) (count : ℕ) (cs : List ChangeOf) (s : Seen) : Type 0 where
   pub from : count ≤ s.read
   pub there : s.read ≤ count + length (drop count cs)
@@ -25,7 +25,7 @@ IsNext grants held old new (Some more) =
     (zone : Held) × (held ≡ Some zone)
     × ((count : ℕ) → IsSeenUpTo grants count zone.changes old → IsSeenUpTo grants count zone.changes new × (more ≡ false → IsSeenWhole grants count zone.changes new))
 
--- all that the caller sees behind the first ones, if there is a zone
+-- all that the caller sees after the first ones, if there is a zone
 abbrev pub IsSeenBehind : GrantsOf → ℕ → Option Held → Option Seen → Type 0
 IsSeenBehind grants count held None = held ≡ None
 IsSeenBehind grants count held (Some s) = (zone : Held) × (held ≡ Some zone) × IsSeenWhole grants count zone.changes s

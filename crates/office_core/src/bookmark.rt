@@ -24,7 +24,7 @@ impl Point {
     /// The point before all changes.
     const START: Point = Point { read: 0, seen: 0 };
 
-    /// The point up to which so many changes were read, and of those behind this point so many are seen; `None` where a number of 32
+    /// The point up to which so many changes were read, and of those after this point so many are seen; `None` where a number of 32
     /// bits cannot say it.
     pub(crate) fn after(self, read: u32, seen: usize) -> Option<Point>
         ensures { IfSome result (λ point. (point.read ≡ read) × (point.seen ≡ self.seen + seen)) }
@@ -66,7 +66,7 @@ impl Bookmark {
     }
 }
 
-/// Up to where callers have read the changes of zones, so that who asks again pays for those behind. At most 1,024 are kept: one more
+/// Up to where callers have read the changes of zones, so that who asks again pays for those after. At most 1,024 are kept: one more
 /// takes the place of all.
 #[derive(Drop)]
 pub struct Bookmarks {

@@ -108,7 +108,7 @@ impl Seen {
         Ok(())
     }
 
-    /// Reads the next changes of the zone of an origin, and tells whether there may be more behind them, where there is the zone.
+    /// Reads the next changes of the zone of an origin, and tells whether there may be more after them, where there is the zone.
     fn read_next<T: ZoneTable>(
         &mut self,
         alloc: Global,
@@ -137,7 +137,7 @@ impl Seen {
     }
 }
 
-/// What a caller sees of the changes of the zone of an origin behind the first ones, so many, where there is the zone. They are read in
+/// What a caller sees of the changes of the zone of an origin after the first ones, so many, where there is the zone. They are read in
 /// pieces, and those of which the table knows that the caller sees nothing are not read at all.
 fn seen_behind<T: ZoneTable>(
     alloc: Global,
@@ -182,7 +182,7 @@ fn push_numbered(
     Ok(())
 }
 
-/// Changes with the numbers behind one, of which those from a number on are left. The only error is out of memory.
+/// Changes with the numbers after one, of which those from a number on are left. The only error is out of memory.
 fn numbered_from(
     alloc: Global,
     from: u32,
@@ -200,7 +200,7 @@ fn numbered_from(
     Ok(all)
 }
 
-/// What the caller sees of the changes of a zone, from a number on. Only the changes behind its bookmark are read, if it has one that
+/// What the caller sees of the changes of a zone, from a number on. Only the changes after its bookmark are read, if it has one that
 /// is before that number; and where they end is its bookmark from now on.
 pub(crate) fn changes<T: ZoneTable>(
     alloc: Global,

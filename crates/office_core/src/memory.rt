@@ -146,7 +146,7 @@ fn keep(
     Ok(())
 }
 
-/// The changes behind the first ones, so many, and at most so many of them.
+/// The changes after the first ones, so many, and at most so many of them.
 fn behind(changes: &[Change], count: u32, most: u32) -> &[Change]
     ensures { result.now ≡ take most (drop count changes.now) }
 {
@@ -292,7 +292,7 @@ impl ZoneTable for MemTable {
         let zone = zone.changed(alloc, &change)?;
         make_room(&mut self.zones, at)?;
         keep(alloc, &mut self.receipts, caller, id, receipt)?;
-        // nothing takes memory behind this
+        // nothing takes memory after this
         put(&mut self.zones, at, zone, change);
         Ok(())
     }

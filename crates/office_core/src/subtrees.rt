@@ -25,7 +25,7 @@ fn are_behind(first: &[Record], second: &[Record]) -> bool
     record_order(&first[first.len() - 1], &second[0]).is_lt()
 }
 
-/// Records in record order, with others behind them; without these, if they would not be in record order. The only error is out of
+/// Records in record order, with others after them; without these, if they would not be in record order. The only error is out of
 /// memory.
 fn joined(mut all: Vec<Record>, mut more: Vec<Record>) -> Result<Vec<Record>, AllocError>
     requires first { InOrder all.items }

@@ -124,7 +124,7 @@ lines_after r rs is =
     let rest = records_text rs in
     ap (λ (n : ℕ). drop (n + 1) (records_text (r ∷ rs))) (first_cut r rs is) ∙ ap (drop (length line + 1)) (append_assoc line (10 ∷ []) rest) ∙ drop-append-add line (10 ∷ rest) 1
 
--- so a text that is cut at its first line end is cut behind the line of its first record
+-- so a text that is cut at its first line end is cut after the line of its first record
 abbrev pub IsCut : List ℕ → Option (Bor (List ℕ) × Bor (List ℕ)) → Type 0
 IsCut text found =
     MatchOption found (position_or_len (λ o. eqb o 10) text ≡ length text)

@@ -5,7 +5,7 @@
 pub struct Ahead {
     /// So many changes come first that have no record of those that the grants include.
     pub hidden: u32,
-    /// So many of the changes behind them are to be read at once.
+    /// So many of the changes after them are to be read at once.
     pub shown: u32,
 }
 

@@ -15,7 +15,7 @@ fn is_included(grants: &mut Grants<'_>, rr: &Record) -> bool
     grants.include(&rr.owner, rr.record_type())
 }
 
-/// Records, and behind them copies of those of some others that grants include. The only error is out of memory.
+/// Records, and after them copies of those of some others that grants include. The only error is out of memory.
 pub fn with_included(
     alloc: Global,
     mut all: Vec<Record>,

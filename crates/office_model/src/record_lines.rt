@@ -71,7 +71,7 @@ impl RecordLines {
     }
 }
 
-/// The first line of a text of record lines, without its line end, and the text behind it.
+/// The first line of a text of record lines, without its line end, and the text after it.
 pub fn first_line(text: &str) -> Option<(&str, &str)>
     ensures { (rs : List RecordOf) → AllByRecursion IsRecord rs → text.now ≡ records_text rs → IsFirst rs result }
 {

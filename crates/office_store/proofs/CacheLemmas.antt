@@ -59,14 +59,14 @@ pub fits_read : (conn : Shown) (cached found : Option ZoneOf) → IfSome cached 
 fits_read conn None found is holds = record { held = λ clean. let it = holds clean in ∣ (it.0, it.1, tt) ∣₁ }
 fits_read conn (Some zone) found is holds = record { held = λ clean. let it = holds clean in ∣ (it.0, it.1, subst (IsZoneIn it.0) is it.3) ∣₁ }
 
--- behind questions
+-- after questions
 pub fits_asked : (old new : Shown) (cached : Option ZoneOf) → Asked old new → FitsCache old cached → FitsCache new cached
 fits_asked old new cached asked fits = record { held = λ clean. ∥∥₁_map (fits.held (asked.honest clean)) (λ it. (it.0, asked.same it.0 it.1, it.2)) }
 
 pub fits_asked_none : (old new : Shown) (cached : Option ZoneOf) → Asked old new → FitsCache old cached → FitsCache new None
 fits_asked_none old new cached asked fits = fits_none new cached (fits_asked old new cached asked fits)
 
--- behind a call that turns the state into another
+-- after a call that turns the state into another
 pub fits_turned : {X E : Type 0} (old new : Shown) (r : Result X E) (after : State → State) (cached : Option ZoneOf) → Turns old new r after → FitsCache old cached → FitsCache new None
 fits_turned old new (Ok x) after cached turns fits = record { held = λ clean. ∥∥₁_map (fits.held (turns.honest clean)) (λ it. (after it.0, turns.made clean it.0 it.1, tt)) }
 fits_turned old new (Err e) after cached turns fits = record { held = λ clean. ∥∥₁_map (fits.held (turns.honest clean)) (λ it. (it.0, turns.failed it.0 it.1, tt)) }

@@ -53,11 +53,11 @@ history_none conn cached fits = record { held = λ clean. ∥∥₁_map (fits.he
 pub history_checked : (conn : Shown) (history : Option ZoneHistory) (Other : State → Type 0) → (HasCleanDisk conn → (s : State) × HoldsState conn s × LeavesStates conn s s × Other s × Remembers s history) → FitsHistory conn history
 history_checked conn history Other found = record { held = λ clean. let it = found clean in ∣ (it.0, it.1, it.4) ∣₁ }
 
--- behind questions
+-- after questions
 pub history_asked : (old new : Shown) (history : Option ZoneHistory) → Asked old new → FitsHistory old history → FitsHistory new history
 history_asked old new history asked fits = record { held = λ clean. ∥∥₁_map (fits.held (asked.honest clean)) (λ it. (it.0, asked.same it.0 it.1, it.2)) }
 
--- behind a call that turns the state into another, nothing is remembered
+-- after a call that turns the state into another, nothing is remembered
 pub history_turned : {X E : Type 0} (old new : Shown) (r : Result X E) (after : State → State) (cached : _) → Turns old new r after → FitsCache old cached → FitsHistory new None
 history_turned old new r after cached turns fits = history_none new None (fits_turned old new r after cached turns fits)
 

@@ -13,7 +13,7 @@ use Rattle.office_store.specs.Turns.{Turns}
 pub weaker : (conn : Shown) (s t : State) → LeavesStates conn s s → LeavesStates conn s t
 weaker conn s t left clean db may = elim (left clean db may) [ inl it ↦ inl it | inr it ↦ inl it ]
 
--- a refusal behind questions alone
+-- a refusal after questions alone
 pub refused : {X E : Type 0} (old new : Shown) (e : E) (after : State → State) → Asked old new → Turns {X = X} {E = E} old new (Err e) after
 refused old new e after asked = record {
   made = λ clean. tt;
@@ -27,7 +27,7 @@ pub refused_so : {X E : Type 0} (old new : Shown) (r : Result X E) (after : Stat
 refused_so old new (Ok x) after is asked = absurd cc
 refused_so old new (Err e) after is asked = refused old new e after asked
 
--- a batch behind questions
+-- a batch after questions
 pub written : {X E : Type 0} (old mid new : Shown) (r : Result X E) (w : BatchOf) (after : State → State) → Asked old mid
     → OnOk r ((s t : State) → Leads w s t → HoldsState mid s → HoldsState new t)
     → OnErr r ((s : State) → HoldsState mid s → HoldsState new s)

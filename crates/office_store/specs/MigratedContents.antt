@@ -26,7 +26,7 @@ next_zone origin rs = advanced (zone_of origin rs)
 unfoldable pub change_for : List (List ℕ) → List Record → Option ChangeOf
 change_for origin rs = if is_same (set_of rs) (zone_of origin rs).records then None else Some (change_between (set_of rs) (next_zone origin rs).records)
 
--- a zone after a change, if there is one: that zone in record order, and the change behind the earlier ones
+-- a zone after a change, if there is one: that zone in record order, and the change after the earlier ones
 abbrev pub after : ZoneRows → Option ChangeOf → ZoneRows
 after z None = z
 after z (Some c) = record z { records = listing (next_zone z.origin z.records).records; changes = z.changes ++ c ∷ [] }
@@ -71,7 +71,7 @@ zone_gone z = rows_gone z.origin (change_for z.origin z.records)
 abbrev pub zone_come : ZoneRows → List RecordRowOf
 zone_come z = rows_come z.origin (change_for z.origin z.records)
 
--- its change is the one behind the earlier ones
+-- its change is the one after the earlier ones
 abbrev pub zone_made : ZoneRows → List ChangeRowOf
 zone_made z = rows_made z.origin (suc (length z.changes)) (change_for z.origin z.records)
 

@@ -27,7 +27,7 @@ pub record AreOldZoneRows (origins : List (List ℕ)) (records : List RecordRowO
 abbrev pub IsOldZoneOf : List (List ℕ) → List ZoneRecord → List ChangedRecord → Type 0
 IsOldZoneOf origin records changes = AreOfOldZone origin (map (λ r. r.rr) records) × (are_numbered changes ≡ true)
 
--- one zone after the other, each of the next origin, and nothing behind the last
+-- one zone after the other, each of the next origin, and nothing after the last
 abbrev pub AreOldZonesInTurn : List (List (List ℕ)) → List ZoneRecord → List ChangedRecord → Type 0
 AreOldZonesInTurn [] records changes = (records ≡ []) × (changes ≡ [])
 AreOldZonesInTurn (origin ∷ origins) records changes =

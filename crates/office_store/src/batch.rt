@@ -23,7 +23,7 @@ use store_faults::StoreFault;
 use store_rows::{addition_batch, receipt_batch};
 use store_sql::{Batch, last_number, write};
 
-/// The number behind that of the last change, and 1 for the first. Behind 9,223,372,036,854,775,807 there is no number.
+/// The number after that of the last change, and 1 for the first. After 9,223,372,036,854,775,807 there is no number.
 fn number_behind(last: Option<i64>) -> Result<i64, StoreFault>
     ensures next { IfOk result (λ number. (count : ℕ) → last ≡ last_of count → number ≡ pos (suc count)) }
     ensures named { IfErr result IsFailure }

@@ -26,7 +26,7 @@ pub(crate) struct MigrationSteps {
     pub(crate) zones: usize,
 }
 
-/// Rows, and those of records of the zone of an origin behind them. The only error is out of memory.
+/// Rows, and those of records of the zone of an origin after them. The only error is out of memory.
 fn with_rows(
     alloc: Global,
     mut rows: Vec<RecordRow>,
@@ -132,7 +132,7 @@ impl MigrationSteps {
 }
 
 /// What is written for zones of these origins, whose records and changes stand one after the other. `BadRow` comes where they are
-/// those of no such zones, or something is left behind the last.
+/// those of no such zones, or something is left after the last.
 pub(crate) fn steps_in_turn(
     alloc: Global,
     origins: &[Name],

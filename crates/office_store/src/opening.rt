@@ -212,7 +212,7 @@ fn open_change(alloc: Global, history: &mut ZoneHistory, number: u64) -> Result<
     Ok(())
 }
 
-/// Notes what one more row of `changes` has, behind those before it. The only error is out of memory.
+/// Notes what one more row of `changes` has, after those before it. The only error is out of memory.
 fn note(alloc: Global, history: &mut ZoneHistory, changed: &ChangedRecord) -> Result<(), AllocError>
     ensures origin { history.new.origin ≡ history.old.origin }
     ensures placed { OnOk result ((cs : List ChangeOf) → KnowsAll history.old cs → KnowsAll history.new (placed cs changed.now)) }

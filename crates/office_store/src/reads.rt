@@ -119,7 +119,7 @@ pub(crate) fn changes_at<S: Alter>(
     Ok(Some(changes))
 }
 
-/// The changes of a zone behind the first ones, so many, and at most so many of them; the oldest first, where there is the zone.
+/// The changes of a zone after the first ones, so many, and at most so many of them; the oldest first, where there is the zone.
 pub(crate) fn changes_behind<S: Alter>(
     alloc: Global,
     conn: &mut Connection<S>,

@@ -180,7 +180,7 @@ impl<S: Alter + Drop, L: Ledger> SqlTable<S, L> {
         ensures bad { IfErr result (λ refused. HasCleanDisk (state S.Store refused.conn) → refused.fault ≡ BadRow → HasVersion (state S.Store conn)) }
         ensures tables { IfErr result (λ refused. refused.fault ≡ BadRow → IsOffice (state S.Store conn).now.schema) }
         ensures named { IfErr result (λ refused. (refused.fault ≡ WrongVersion) ⊎ IsOfRows refused.fault) }
-        // Behind a refusal all is as it was, whatever the tables are, and a crash leaves what was committed.
+        // After a refusal all is as it was, whatever the tables are, and a crash leaves what was committed.
         ensures same { IfErr result (λ refused. Asked (state S.Store conn) (state S.Store refused.conn)) }
         ensures shown { IfErr result (λ refused. Keeps (state S.Store conn) (state S.Store refused.conn)) }
         ensures left { IfErr result
@@ -212,12 +212,12 @@ impl<S: Alter + Drop, L: Ledger> SqlTable<S, L> {
         requires alone { conn.old.in_transaction ≡ false }
         // The content that was held is held migrated, and a crash leaves that.
         ensures made { HasCleanDisk (state S.Store conn.new) → IfOk result (IsMigrated (state S.Store conn.old) (state S.Store conn.new)) }
-        // Behind a refusal the connection shows what it showed, whatever the tables are; and a crash leaves what it left before, or the
+        // After a refusal the connection shows what it showed, whatever the tables are; and a crash leaves what it left before, or the
         // content migrated.
         ensures failed { OnErr result (Keeps (state S.Store conn.old) (state S.Store conn.new)) }
         ensures crash { OnErr result
             (Leaves (state S.Store conn.new) (λ db. (state S.Store conn.old).may_leave db ⊎ IsMigratedFrom (state S.Store conn.old) db)) }
-        // Behind `WrongVersion` and `BadRow` it leaves nothing else than before.
+        // After `WrongVersion` and `BadRow` it leaves nothing else than before.
         ensures same { (result ≡ Err WrongVersion) ⊎ (result ≡ Err BadRow) → Asked (state S.Store conn.old) (state S.Store conn.new) }
         // Over rows of version 1 only the store fails or memory runs out; so `BadRow` says that they are not such rows.
         ensures good { HasCleanDisk (state S.Store conn.new)

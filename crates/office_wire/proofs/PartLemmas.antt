@@ -1,4 +1,4 @@
--- A text before and behind its first slash.
+-- A text before and after its first slash.
 use Rattle.std.proofs.Common.{◌≡◌, ℕ, suc, ◌+◌, ◌<◌, Bool, true, false, List, [], ◌∷◌, length, take, drop, Option, Some, None, refl, ap, ◌∙◌, arith}
 use Rattle.std.specs.Prelude.{◌==◌, nat_lt, cond}
 use Rattle.std.specs.List.{position, position_or_len}

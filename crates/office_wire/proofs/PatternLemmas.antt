@@ -8,7 +8,7 @@ use Rattle.office_wire.specs.Paths.{widen, segments, is_name, MeetsSegment, IsPa
 use Rattle.office_wire.proofs.SlashLemmas.{nil, from_slash}
 use Rattle.office_wire.proofs.WalkLemmas.{Meets, BeginsWith}
 
--- the tokens of a segment, those of segments behind others, and those of a path
+-- the tokens of a segment, those of segments after others, and those of a path
 abbrev pub token_of : List ℕ → List ℕ
 token_of s = cond (is_name s) (256 ∷ []) s
 

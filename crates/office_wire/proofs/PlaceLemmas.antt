@@ -39,7 +39,7 @@ tail_widen : (o : ℕ) (ss : List (List ℕ)) → tail (widen o ss) ≡ tail ss
 tail_widen o [] = refl
 tail_widen o (s ∷ ss) = refl
 
--- what a path has behind its first slash
+-- what a path has after its first slash
 behind_first : (path : List ℕ) → behind (from_slash path) ≡ tail (segments path)
 behind_first path = ap tail (sym (segments_cut path))
 

@@ -5,7 +5,7 @@ use Rattle.std.proofs.lemmas.Bool.Decides.{nat_tests}
 use Rattle.office_wire.specs.Paths.{widen, segments, joined, HasNoSlash, SegmentsAreBetweenSlashes}
 use Rattle.office_wire.proofs.SlashLemmas.{nil}
 
--- segments behind others
+-- segments after others
 abbrev rest : List (List ℕ) → List ℕ
 rest ss = flat_map (λ s. 47 ∷ s) ss
 

@@ -28,7 +28,7 @@ abbrev pub Meets : List ℕ → List ℕ → Type 0
 Meets [] path = path ≡ []
 Meets (x ∷ t) path = MatchBool (x == 256) ((0 < length (before_slash path)) × Meets t (from_slash path)) (BeginsWith x (λ q. Meets t q) path)
 
--- a path behind a token that it begins with; a parameter's token, which is no octet, would be taken as a segment
+-- a path after a token that it begins with; a parameter's token, which is no octet, would be taken as a segment
 met_here : (b : ℕ) (t path : List ℕ) → IsGood (b ∷ t) → Meets t path → Meets (b ∷ t) (b ∷ path)
 met_here b t path good meets = by (b == 256) refl
   where
@@ -153,7 +153,7 @@ module _ {K : Type 0} where
 
   -- ---- a parameter
 
-  -- where the segment does not end with a slash behind an octet, no suffix is longest
+  -- where the segment does not end with a slash after an octet, no suffix is longest
   longest_none : (seg : List ℕ) (rows : RowsOf K) → cuts seg (47 ∷ []) ≡ false → AllEnd rows → longest_from seg [] rows ≡ []
   longest_none seg [] e ends = refl
   longest_none seg (([], k) ∷ rows) e ends = longest_none seg rows e ends.1
@@ -217,7 +217,7 @@ module _ {K : Type 0} where
   unfolding param_step
   step_part rows path e = rw e refl
 
-  -- a row behind a parameter: the parameter took the segment
+  -- a row after a parameter: the parameter took the segment
   pub record TookPart (rows : RowsOf K) (t : List ℕ) (k : K) (b : ℕ) (path : List ℕ) : Type 0 where
     there : Has t k rows
     some : 0 < length (before_slash (b ∷ path))
@@ -260,7 +260,7 @@ module _ {K : Type 0} where
       by (empty slash e none) = absurd (in_none rows t k (b ∷ path) (step_none rows (b ∷ path) (longest_none (segment (b ∷ path)) rows e ends) slash) has)
       by (part slash e some is) = cut slash some is (longest_some (segment (b ∷ path)) rows e ends)
 
-  -- a row behind a parameter whose rest is met is taken
+  -- a row after a parameter whose rest is met is taken
   takes : (rows : RowsOf K) (t : List ℕ) (k : K) (path : List ℕ) → AllEnd rows → Has t k rows → 0 < length (before_slash path) → Meets t (from_slash path) → Has t k (param_step rows path).1
   takes rows t k path ends has some meets = by (start path) t (ends_row rows t k ends has) has meets
     where

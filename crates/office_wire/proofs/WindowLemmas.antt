@@ -39,7 +39,7 @@ refilled xs buf filled n len whole within fits room =
 minus_zero : (k : ℕ) → k - 0 ≡ k
 minus_zero k = omega arith
 
--- what is read behind the octets that were moved to the front
+-- what is read after the octets that were moved to the front
 pub filled_view : (xs buf old : List ℕ) (filled n len : ℕ) → len ≡ length xs → filled ≤ length xs → n ≤ length buf → length buf ≡ length xs - filled → take filled xs ≡ old
     → slice_range (take len ((take filled xs ++ (buf ++ drop (length xs - filled) (drop filled xs))) ++ drop (length (take filled xs ++ (buf ++ drop (length xs - filled) (drop filled xs)))) xs)) 0 (filled + n)
     ≡ old ++ take n buf

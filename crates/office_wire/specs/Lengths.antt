@@ -1,4 +1,4 @@
--- What a head asks to be read behind it (RFC 9112 section 6).
+-- What a head asks to be read after it (RFC 9112 section 6).
 use Rattle.std.specs.Prelude.{ℕ, ◌≤◌, List, [], ◌∷◌, length, Bool, true, false, ◌&&◌, ◌||◌, ◌==◌, not, nat_lt, if◌then◌else◌, Option, Some, None, codes, bytes_eq, ⊤}
 use Rattle.std.specs.List.{list_all}
 use Rattle.std.specs.Str.Parse.{digits_value}
@@ -42,7 +42,7 @@ ask_by method count encoded (first ∷ others) =
     if nat_lt 64 count || not (are_one_number first others) then Refused BadHead
     else (if encoded then Refused NoLength else body_up_to (number_up_to 65536 first))
 
--- what stands behind this head: a body of so many octets, or nothing, since it is refused
+-- what stands after this head: a body of so many octets, or nothing, since it is refused
 unfoldable pub ask_of : RequestHead → Ask
 ask_of h =
     ask_by (method_of h.method) (length h.fields) (is_any (values_of (codes "transfer-encoding") (fields_of h)))

@@ -7,7 +7,7 @@ abbrev pub before_slash : List ℕ → List ℕ
 before_slash [] = []
 before_slash (o ∷ text) = if o == 47 then [] else o ∷ before_slash text
 
--- what stands behind it
+-- what stands after it
 abbrev pub behind_slash : List ℕ → List ℕ
 behind_slash [] = []
 behind_slash (o ∷ text) = if o == 47 then text else behind_slash text

@@ -33,7 +33,7 @@ none_noted = record { count = 0; last = None }
 abbrev pub one_more : Servfails → TableFault → Servfails
 one_more note fault = record { count = min (note.count + 1) (2 ^ 64 - 1); last = Some fault }
 
--- these are noted behind others
+-- these are noted after others
 abbrev pub noted : Servfails → List TableFault → Servfails
 noted note [] = note
 noted note (fault ∷ faults) = noted (one_more note fault) faults

@@ -15,7 +15,7 @@ fn is_same_text(a: &[u8], b: &[u8]) -> bool
     a.eq_ignore_ascii_case(b)
 }
 
-/// The value of the first field of a name, and the fields behind it.
+/// The value of the first field of a name, and the fields after it.
 pub(crate) fn next_value<'b, 'h>(
     head: &'b [u8],
     fields: &'h [HeaderSpan],

@@ -1,4 +1,4 @@
-//! What a head asks to be read behind it.
+//! What a head asks to be read after it.
 
 ghost use Rattle.std.specs.Prelude.{◌≡◌, true, length, map, codes, All};
 ghost use Rattle.httparse.specs.Spans.{header_bytes, IsHeaderWithin};
@@ -20,7 +20,7 @@ const BODY_MAX: u32 = 65_536;
 /// The most fields of a head.
 const FIELDS_MAX: usize = 64;
 
-/// What is read behind a head.
+/// What is read after a head.
 #[derive(Clone, Copy)]
 pub(crate) enum Ask {
     /// A body of so many octets.
@@ -59,7 +59,7 @@ fn body_up_to(digits: &[u8]) -> Ask
     }
 }
 
-/// What is read behind a head with these fields.
+/// What is read after a head with these fields.
 pub(crate) fn asked(method: Method, head: &[u8], fields: &[HeaderSpan]) -> Ask
     requires { All (IsHeaderWithin (length head.now)) fields.now }
     ensures value { result

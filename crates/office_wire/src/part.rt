@@ -24,7 +24,7 @@ fn before_slash(text: &[u8]) -> &[u8]
     }
 }
 
-/// What stands behind it.
+/// What stands after it.
 fn behind_slash(text: &[u8]) -> &[u8]
     ensures { result.now ≡ behind_slash text.now }
 {

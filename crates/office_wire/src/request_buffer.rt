@@ -71,7 +71,7 @@ impl RequestBuffer {
         &self.bytes[self.start..self.end]
     }
 
-    /// Reads once behind what is there, and returns how many octets were received: none only at the end.
+    /// Reads once after what is there, and returns how many octets were received: none only at the end.
     pub(crate) fn fill<S: Stream>(&mut self, stream: &mut S) -> Result<usize, DeviceFailed>
         requires { length self.old < 81920 }
         ensures got { IfOk result

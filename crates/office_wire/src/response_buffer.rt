@@ -21,7 +21,7 @@ const ROOM: usize = 512;
 const HALF: usize = 256;
 
 /// The text of the response that is to be written. The room for a short response is taken when it is made; a longer one takes
-/// memory of its own. The body is printed behind room for the head, which is written last, since it gives the body's length.
+/// memory of its own. The body is printed after room for the head, which is written last, since it gives the body's length.
 #[derive(Drop)]
 pub(crate) struct ResponseBuffer {
     head: Vec<u8>,
@@ -107,7 +107,7 @@ fn put_head(out: &mut Vec<u8>, response: &Response, count: usize, closing: bool)
     };
 }
 
-/// Puts a head right before the octets behind the room for it, and answers where it begins.
+/// Puts a head right before the octets after the room for it, and answers where it begins.
 fn place_head(text: &mut Vec<u8>, head: &[u8]) -> usize
     requires head { length head.now ≤ 256 }
     requires text { 256 ≤ vec_len text.old }
@@ -121,7 +121,7 @@ fn place_head(text: &mut Vec<u8>, head: &[u8]) -> usize
     start
 }
 
-/// Lets a body go that is not sent, since the request's method is HEAD; it stands behind the room for the head.
+/// Lets a body go that is not sent, since the request's method is HEAD; it stands after the room for the head.
 fn drop_unsent(text: &mut Vec<u8>, method: Method)
     requires { 256 ≤ vec_len text.old }
     ensures sent { drop 256 text.new.items ≡ sent_body method (drop 256 text.old.items) }

@@ -16,7 +16,7 @@ idle_from rules i not asked rule can first = not (record { asked = asked; can = 
 pub not_idle : (rules : List Rule) (i : ℕ) → Takes rules i i → ¬ IsIdle rules i
 not_idle rules i takes idle = idle takes.asked takes.taker takes.can takes.first
 
--- a rule behind another never decides what that one matches
+-- a rule after another never decides what that one matches
 pub upto : (rules : List Rule) (i j : ℕ) → Takes rules i j → j ≤ i
 upto rules i j takes =
     ⊎_elim

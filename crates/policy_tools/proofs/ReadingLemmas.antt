@@ -56,7 +56,7 @@ words_all parts i words all so_far = sym (so_far ∙ ap (λ (l : List (Bor (List
 abbrev Read : Type 0 → Type 0
 Read A = Result A ExpectationFault
 
--- what is read behind these
+-- what is read after these
 abbrev with_front : {X : Type 0} → List X → Read (List X) → Read (List X)
 with_front done rest = rest >>= λ others. Ok (done ++ others)
 

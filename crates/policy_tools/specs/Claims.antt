@@ -59,7 +59,7 @@ IsRow rules row = AreEntries rules row.name.now (length rules) row.entries.items
 
 -- ---- taking
 
--- the rule of an entry takes a pair from some callers of a rule, behind entries that took others
+-- the rule of an entry takes a pair from some callers of a rule, after entries that took others
 pub record TakesBehind (c : Claim) (before : List Entry) (e : Entry) : Type 0 where
   pub record_type : RecordType
   pub action : Action

@@ -26,7 +26,7 @@ pub record IsGrant (e : Entry) (own wanted : ℕ) (right : Right) : Type 0 where
   pub in_wanted : has_point wanted right.record_type right.action ≡ true
   pub number : e.number ≡ right.rule
 
--- the rule of an entry grants a pair to all these callers, behind entries that decided others
+-- the rule of an entry grants a pair to all these callers, after entries that decided others
 pub record GrantsBehind (callers : Callers) (before : List Entry) (e : Entry) (right : Right) : Type 0 where
   pub includes : includes e.claim.rule.now.callers callers ≡ true
   pub grants : e.claim.rule.now.effect ≡ Grant

@@ -72,7 +72,7 @@ fn decided(entries: &[Entry<'_>], callers: &Callers) -> Points
     points
 }
 
-/// The entry of a rule behind others.
+/// The entry of a rule after others.
 fn entry_behind<'a>(before: &[Entry<'_>], number: usize, claim: Claim<'a>) -> Entry<'a>
     ensures number { result.number ≡ number }
     ensures claim { result.claim ≡ claim.entry }

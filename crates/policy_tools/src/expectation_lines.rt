@@ -398,8 +398,8 @@ fn reveal_octets(text: &[u8])
 /// `only`, `nobody` may stand in place of the callers, and `*` for every action or every type; `at` is the name alone, `within` it and
 /// all below it, and `below` all below it.
 ///
-/// Of several refusals that of the first line comes, and in a line the first of these: `Form` where the words are not as many or not
-/// such, `NoCaller`, and then the others in the order of the words. `NoMemory` comes at the growth that was refused.
+/// Of several refusals that of the first line comes. In a line `Form` comes first if there are too few words, or no `may` before the
+/// last four words of `only`; else the refusal of the first word that is wrong. `NoMemory` comes at the growth that was refused.
 pub fn read_expectations(
     alloc: Global,
     text: &[u8],

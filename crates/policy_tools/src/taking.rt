@@ -71,7 +71,7 @@ fn mark(claim: Claim<'_>, entries: &[Entry<'_>], found: &mut [bool])
     }
 }
 
-/// Whether the rule of an entry takes questions of a rule, behind rules that decide some for all its callers.
+/// Whether the rule of an entry takes questions of a rule, after rules that decide some for all its callers.
 fn takes(claim: Claim<'_>, entry: Entry<'_>, decided: Points) -> bool
     ensures { (before : List EntryOf)
         → ((t : TypeOf) (a : ActionOf) → has_point decided.bits t a ≡ is_decided before claim.entry.rule.now.callers t a)

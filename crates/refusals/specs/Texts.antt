@@ -27,7 +27,7 @@ abbrev pub row_json : RowOf → List ℕ
 row_json row = codes "{\"number\":\"" ++ (row.number ++ (codes "\",\"name\":\"" ++ (row.name ++ (codes "\",\"meaning\":\"" ++ (row.meaning
     ++ (codes "\",\"advice\":\"" ++ (row.advice ++ (codes "\",\"source\":\"" ++ (row.source ++ codes "\"}")))))))))
 
--- each further row is behind a comma, on a line of its own
+-- each further row is after a comma, on a line of its own
 abbrev pub further : List RowOf → List ℕ
 further rows = flat_map (λ row. codes ",\n" ++ row_json row) rows
 

@@ -13,26 +13,26 @@ pub enum NumberPlace {
     Entry,
     /// The part that says what is wrong with a name.
     Name,
-    /// Behind its last part.
+    /// After its last part.
     End,
 }
 
 /// Where a number is printed, and what follows it.
 #[derive(Clone, Copy)]
 pub enum Kind {
-    /// At the start, with nothing behind it.
+    /// At the start, with nothing after it.
     Whole,
-    /// What is wrong with a name: at the start, or behind another number.
+    /// What is wrong with a name: at the start, or after another number.
     Name,
-    /// The type of records: at the start, or behind the number of an entry.
+    /// The type of records: at the start, or after the number of an entry.
     Type,
-    /// What is wrong with record data: behind the number of an entry.
+    /// What is wrong with record data: after the number of an entry.
     Data,
-    /// A name in an entry: behind the number of the entry, with that of the name behind it.
+    /// A name in an entry: after the number of the entry, with that of the name after it.
     InnerName,
-    /// An entry of a master file: at the start, with what is wrong with it behind it.
+    /// An entry of a master file: at the start, with what is wrong with it after it.
     Entry,
-    /// A name in a rule: at the start, with that of the name behind it.
+    /// A name in a rule: at the start, with that of the name after it.
     RuleName,
     /// Nowhere.
     Unprinted,
@@ -56,7 +56,7 @@ impl Kind {
         }
     }
 
-    /// The place behind a number of this kind.
+    /// The place after a number of this kind.
     pub(crate) const fn behind(self) -> NumberPlace
         ensures { result ≡ behind self }
     {

@@ -66,7 +66,7 @@ pub fn plain_text(alloc: Global, rows: &[RefusalRow]) -> Result<String, AllocErr
     Ok(text)
 }
 
-/// The rows behind the first of an array, each behind a comma and on a line of its own. The only error is out of memory.
+/// The rows after the first of an array, each after a comma and on a line of its own. The only error is out of memory.
 fn further_text(alloc: Global, rows: &[RefusalRow]) -> Result<String, AllocError>
     ensures { IfOk result (λ text. string_bytes text ≡ further (map row_of rows.now)) }
 {

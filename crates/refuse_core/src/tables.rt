@@ -32,7 +32,7 @@ pub fn commit_receipt<T: ZoneTable>(
     )
 }
 
-/// `ZoneTable::commit`, and `ZoneTable::zone` behind it. The addition comes back where an edit does not commit it: to drop it here would
+/// `ZoneTable::commit`, and `ZoneTable::zone` after it. The addition comes back where an edit does not commit it: to drop it here would
 /// be proved with the edit.
 pub fn zone_behind<T: ZoneTable>(
     alloc: Global,
@@ -52,7 +52,7 @@ pub fn zone_behind<T: ZoneTable>(
     (made, table.zone(alloc, at), None)
 }
 
-/// `ZoneTable::commit`, and `ZoneTable::zone` behind one that failed, beside the zone that the addition makes.
+/// `ZoneTable::commit`, and `ZoneTable::zone` after one that failed, beside the zone that the addition makes.
 pub fn zone_behind_failure<T: ZoneTable>(
     alloc: Global,
     table: &mut T,

@@ -113,9 +113,9 @@ next_read (y ∷ xs) (c ∷ ys) zero x are lt is =
     ap (λ (d : ChangeOf). d ∷ ys) (sym first ∙ ap change_in (sym is))
 next_read (y ∷ xs) (c ∷ ys) (suc i) x are lt is = next_read xs ys i x (let more : map change_in xs ≡ take (length xs) ys = cc in more) (omega (arith, lt)) is
 
--- ---- behind an addition
+-- ---- after an addition
 
--- a change comes behind those that are remembered
+-- a change comes after those that are remembered
 pub remembers_committed : (a : AdditionOf) (s : State) (history : Option ZoneHistory) → Remembers s history → Remembers (committed a s) history
 remembers_committed a s None are = tt
 remembers_committed a s (Some zone) are = go a.change

@@ -34,7 +34,7 @@ pub all_joined : {X : Type 0} (P : X → Type 0) (xs ys : List X) → AllByRecur
 all_joined P [] ys front back = back
 all_joined P (x ∷ xs) ys front back = (front.0, all_joined P xs ys front.1 back)
 
--- a list with one element between what is before it and what is behind
+-- a list with one element between what is before it and what is after
 pub cut : {X : Type 0} (xs : List X) (i : ℕ) (x : X) → i < length xs → x ≡ get_or xs i x → xs ≡ take i xs ++ x ∷ drop (suc i) xs
 cut xs i x inside is = sym (take-append-drop i xs) ∙ ap (λ ys. take i xs ++ ys) (drop-cons xs i x inside ∙ ap (λ y. y ∷ drop (suc i) xs) (sym is))
 
@@ -98,7 +98,7 @@ none_before r (x ∷ xs) all =
     ap (λ b. cond (not b) (x ∷ filter (is_other r) xs) (filter (is_other r) xs)) (tie_turned r x ∙ apart (record_order x r) all.0)
     ∙ ap (λ l. x ∷ l) (none_before r xs all.1)
 
--- nor as one behind a record that does not stand before it
+-- nor as one after a record that does not stand before it
 pub none_behind : (r x : Record) (rs : List Record) → Above rs x → is_lt (record_order x r) ≡ false → filter (is_other r) rs ≡ rs
 none_behind r x [] all low = refl
 none_behind r x (s ∷ rs) all low = by_test (same_key (key_of r) (key_of s)) refl (none_behind r x rs all.1 low)
@@ -112,7 +112,7 @@ pub placed_front : (r : Record) (xs ys : List Record) → Before r xs → placed
 placed_front r [] ys all = refl
 placed_front r (x ∷ xs) ys all = ap (λ b. cond b (x ∷ placed r (xs ++ ys)) (r ∷ filter (is_other r) (x ∷ xs ++ ys))) all.0 ∙ ap (λ l. x ∷ l) (placed_front r xs ys all.1)
 
--- and others behind it
+-- and others after it
 pub placed_back : (r : Record) (xs ys : List Record) → last_passes (λ x. is_lt (record_order x r)) xs ≡ false → filter (is_other r) ys ≡ ys → placed r (xs ++ ys) ≡ placed r xs ++ ys
 placed_back r [] ys last same = absurd (let no : true ≡ false = last in cc)
 placed_back r (x ∷ []) ys last same =
@@ -157,7 +157,7 @@ before_flat r (v ∷ vs) order all =
     let parts = order_parts v.items (flat vs) order in
     all_joined (λ x. is_lt (record_order x r) ≡ true) v.items (flat vs) (all_before r v.items parts.0 all.0) (before_flat r vs parts.1 all.1)
 
--- the rows behind a piece that does not end before a record are others than it
+-- the rows after a piece that does not end before a record are others than it
 pub others_behind : (r : Record) (xs ys : List Record) → AllByRecursion (Above ys) xs → last_passes (λ x. is_lt (record_order x r)) xs ≡ false → filter (is_other r) ys ≡ ys
 others_behind r xs ys above last =
     let x = last_fails (λ x. is_lt (record_order x r)) (Above ys) xs above last in
@@ -294,7 +294,7 @@ none_is (x ∷ xs) e = absurd (omega (arith, e))
 
 -- ---- a record at its place
 
--- rows behind one that does not stand before a record do not, either
+-- rows after one that does not stand before a record do not, either
 not_before : (r x : Record) (xs : List Record) → Above xs x → is_lt (record_order x r) ≡ false → AllByRecursion (λ y. is_lt (record_order y r) ≡ false) xs
 not_before r x [] above low = tt
 not_before r x (y ∷ ys) above low = (by_test (is_lt (record_order y r)) refl, not_before r x ys above.1 low)
@@ -527,7 +527,7 @@ put_rows (r ∷ rs) rows set are =
     let placed_set = placed_rows r (put_back rs rows) rest.order in
     record { order = placed_set.order; set = placed_set.set ∙ ap (λ (s : Records). put s r) rest.set }
 
--- rows behind a change
+-- rows after a change
 pub changed_rows : (rows gone come : List Record) → InOrder rows → AreRows (put_back come (removed gone rows)) (changed (set_of rows) gone come)
 changed_rows rows gone come order =
     subst (AreRows (put_back come (removed gone rows))) (changed_is (set_of rows) gone come)

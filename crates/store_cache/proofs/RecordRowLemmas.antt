@@ -33,7 +33,7 @@ new_of_none r (x ∷ rs) e = by_test (same_key (key_of r) (key_of x)) refl e (ne
 abbrev pub other : Record → Record → Bool
 other r x = not (same_key (key_of r) (key_of x))
 
--- behind a record that does not stand before another, none is the same as that
+-- after a record that does not stand before another, none is the same as that
 none_behind : (r x : Record) (rs : List Record) → AllByRecursion (λ s. record_order x s ≡ Less) rs → is_lt (record_order x r) ≡ false → filter (other r) rs ≡ rs
 none_behind r x [] all low = refl
 none_behind r x (s ∷ rs) all low = by_test (same_key (key_of r) (key_of s)) refl (none_behind r x rs all.1 low)
@@ -42,7 +42,7 @@ none_behind r x (s ∷ rs) all low = by_test (same_key (key_of r) (key_of s)) re
     by_test true t e = absurd (let f : true ≡ false = ap is_lt (sym all.0 ∙ ap (key_cmp (key_of x)) (sym (key_is (key_of r) (key_of s) t))) ∙ low in cc)
     by_test false t e = ap (λ l. s ∷ l) e
 
--- rows without the first of those behind a place, if it is the same as a record
+-- rows without the first of those after a place, if it is the same as a record
 abbrev gone_at : Record → List Record → ℕ → List Record
 gone_at r rs i = cond (is_first r (drop i rs)) (take i rs ++ drop (suc i) rs) rs
 

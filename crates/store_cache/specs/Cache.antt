@@ -50,17 +50,17 @@ pub record IsPartOf (cached : Option ZoneOf) (origin : List (List ℕ)) (names :
   pub own : zone.origin ≡ origin
   pub part : IsZone zone → whole ≡ part_of zone (at_names origin names)
 
--- ---- behind a change
+-- ---- after a change
 
--- a zone behind a change of the zone of an origin
+-- a zone after a change of the zone of an origin
 abbrev pub changed_at : List (List ℕ) → ChangeOf → ZoneOf → ZoneOf
 changed_at origin c zone = if same_name zone.origin origin then with_change zone c else zone
 
--- a zone behind a change of the zone of an origin, if there is one
+-- a zone after a change of the zone of an origin, if there is one
 abbrev pub cached_behind : List (List ℕ) → Option ChangeOf → Option ZoneOf → Option ZoneOf
 cached_behind origin None cached = cached
 cached_behind origin (Some c) cached = option_map (changed_at origin c) cached
 
--- the cached zone behind an addition
+-- the cached zone after an addition
 abbrev pub cached_after : AdditionOf → Option ZoneOf → Option ZoneOf
 cached_after a cached = cached_behind a.receipt.origin a.change cached

@@ -5,7 +5,7 @@ use Rattle.std.specs.Ordering.{is_lt}
 use Rattle.dns_data.specs.declared.record.Record.{Record}
 use Rattle.zone_core.specs.Sets.{key_of, same_key, record_order, InOrder}
 
--- the rows of pieces, one piece behind the other
+-- the rows of pieces, one piece after the other
 abbrev pub flat : {A : Type 0} → List (Vec Record A) → List Record
 flat pieces = flat_map (λ v. v.items) pieces
 
@@ -45,7 +45,7 @@ abbrev pub put_back : List Record → List Record → List Record
 put_back [] rows = rows
 put_back (r ∷ rs) rows = placed r (put_back rs rows)
 
--- the piece behind those that pass a test, or else the last one
+-- the piece after those that pass a test, or else the last one
 pub record IsPlaceAmong {A : Type 0} (p : Vec Record A → Bool) (pieces : List (Vec Record A)) (place : ℕ) : Type 0 where
   pub before : AllByRecursion (λ v. p v ≡ true) (take place pieces)
   pub here : ((piece : Vec Record A) → place < length pieces → piece ≡ get_or pieces place piece → (p piece ≡ false) ⊎ (length pieces ≡ suc place))

@@ -34,7 +34,7 @@ impl CachedZone {
         Ok(CachedZone { origin, rows })
     }
 
-    /// What is cached behind a change of the zone of an origin. Where memory runs out, nothing is.
+    /// What is cached after a change of the zone of an origin. Where memory runs out, nothing is.
     fn behind(self, alloc: Global, origin: &Name, change: &Change) -> Option<CachedZone>
         ensures { IfSome result (λ cached. current_zone cached ≡ changed_at origin.now (change_in change.now) (current_zone self)) }
     {
@@ -160,7 +160,7 @@ pub fn cached_of(alloc: Global, read: Option<Zone>) -> Option<CachedZone>
     CachedZone::of(alloc, read?).ok()
 }
 
-/// What is cached behind an addition.
+/// What is cached after an addition.
 pub fn follow(alloc: Global, cache: &mut Option<CachedZone>, addition: &Addition)
     ensures { (cached_in cache.new ≡ cached_after (addition_in addition.now) (cached_in cache.old)) ⊎ (cached_in cache.new ≡ None) }
 {

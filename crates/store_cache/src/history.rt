@@ -18,7 +18,7 @@ use std::alloc::{AllocError, Global};
 use zone_core::Change;
 
 /// The most changes that are remembered and read at once. What others touch is remembered between the pieces in which they are read, so
-/// that small pieces leave the memory that was free behind them in as many places.
+/// that small pieces leave the memory that was free after them in as many places.
 const PIECE: usize = 4096;
 
 /// The most records of the changes that are read at once, unless one change has more: a row takes some 440 octets while it is read.
@@ -184,7 +184,7 @@ fn near(changes: &[Touched]) -> &[Touched] {
     changes.get(..PIECE).unwrap_or(changes)
 }
 
-/// How many of some changes to read at once: those that have few records together, and some that are not remembered behind all of them.
+/// How many of some changes to read at once: those that have few records together, and some that are not remembered after all of them.
 fn first_few(changes: &[Touched]) -> u32 {
     let mut piece = Piece::new();
     for touched in near(changes) {
@@ -208,7 +208,7 @@ fn first_shown(changes: &[Touched], grants: &mut Grants<'_>) -> u32
     piece.changes.saturating_add(UNKNOWN)
 }
 
-/// What is behind the first ones, so many.
+/// What is after the first ones, so many.
 fn behind(changes: &[Touched], count: u32) -> &[Touched]
     ensures { result.now ≡ drop count changes.now }
 {
@@ -241,7 +241,7 @@ impl ZoneHistory {
         self.changes.len()
     }
 
-    /// Goes on to the next change, which has no record yet. The only error is out of memory, behind which nothing has changed.
+    /// Goes on to the next change, which has no record yet. The only error is out of memory, after which nothing has changed.
     pub fn begin_change(&mut self, alloc: Global) -> Result<(), AllocError>
         ensures origin { self.new.origin ≡ self.old.origin }
         ensures next { OnOk result ((cs : List ChangeOf) → KnowsAll self.old cs → KnowsAll self.new (cs ++ without_records ∷ [])) }
@@ -252,7 +252,7 @@ impl ZoneHistory {
         Ok(())
     }
 
-    /// Notes one more record of the last change, if there is one. The only error is out of memory, behind which that change is forgotten.
+    /// Notes one more record of the last change, if there is one. The only error is out of memory, after which that change is forgotten.
     pub fn note(&mut self, alloc: Global, rr: &Record) -> Result<(), AllocError>
         ensures origin { self.new.origin ≡ self.old.origin }
         ensures last { OnOk result
@@ -288,7 +288,7 @@ impl ZoneHistory {
         }
     }
 
-    /// What comes next behind the first changes, so many.
+    /// What comes next after the first changes, so many.
     fn ahead(&self, count: u32, grants: &mut Grants<'_>) -> Ahead
         ensures hidden { (cs : List ChangeOf) → AreTouched self.now.origin self.now.changes.items cs
             → IsTrue (are_hidden grants.old (drop count cs) result.hidden) }
@@ -367,7 +367,7 @@ pub fn remember(
     append(alloc, history, origin, count, changes);
 }
 
-/// What comes next among the changes of the zone of an origin behind the first ones, so many, by what is remembered.
+/// What comes next among the changes of the zone of an origin after the first ones, so many, by what is remembered.
 pub fn ahead_in(
     history: &Option<ZoneHistory>,
     origin: &Name,

@@ -163,7 +163,7 @@ fn with_all(
     Ok(pieces)
 }
 
-/// Rows, and copies of records behind them. The only error is out of memory.
+/// Rows, and copies of records after them. The only error is out of memory.
 fn with_copies(
     alloc: Global,
     mut rows: Vec<Record>,
@@ -192,7 +192,7 @@ impl RowPieces {
         Ok(RowPieces { pieces })
     }
 
-    /// The rows whose owners are meant, in record order: those of one piece behind those of another. The only error is out of memory.
+    /// The rows whose owners are meant, in record order: those of one piece after those of another. The only error is out of memory.
     fn parts_of(&self, alloc: Global, owners: Owners<'_>) -> Result<Vec<&[Record]>, AllocError>
         ensures value { IfOk result (λ parts. flat_map (λ part. part.now) parts.items ≡ filter (λ r. has_key owners.entry (key_of r)) self.now) }
         // What holds of all rows.
@@ -240,7 +240,7 @@ impl RowPieces {
         Ok(found)
     }
 
-    /// The rows, one behind the other. The only error is out of memory.
+    /// The rows, one after the other. The only error is out of memory.
     pub(crate) fn into_rows(self, alloc: Global) -> Result<Vec<Record>, AllocError>
         ensures value { IfOk result (λ rs. rs.items ≡ self) }
         ensures order { IfOk result (λ rs. InOrder rs.items) }
@@ -254,7 +254,7 @@ impl RowPieces {
         Ok(rows)
     }
 
-    /// The rows behind a change of their zone. The only error is out of memory.
+    /// The rows after a change of their zone. The only error is out of memory.
     pub(crate) fn changed(self, alloc: Global, change: &Change) -> Result<RowPieces, AllocError>
         ensures { IfOk result (λ p. AreRows p (changed (set_of self) change.now.removed.items change.now.added.items)) }
     {

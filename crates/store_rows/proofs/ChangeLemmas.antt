@@ -26,7 +26,7 @@ changes_from o n (d ∷ cs) c =
 first_number : (n : ℕ) → 1 + n ≡ suc n
 first_number n = omega arith
 
--- the last change has the number behind that of the one before it
+-- the last change has the number after that of the one before it
 pub changes_more : (o : Labels) (cs : List ChangeOf) (c : ChangeOf) → changes_rows o 1 (cs ++ c ∷ []) ≡ changes_rows o 1 cs ++ change_rows o (suc (length cs)) c
 changes_more o cs c = changes_from o 1 cs c ∙ ap (λ n. changes_rows o 1 cs ++ change_rows o n c) (first_number (length cs))
 

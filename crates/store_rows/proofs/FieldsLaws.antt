@@ -46,7 +46,7 @@ item_first true raw after ps h more = (32 ∷ after, refl, runs_are is_quote fal
 item_first false [] after ps h more = absurd h
 item_first false (o ∷ raw) after ps h more = let r = runs_are ends_item false (o ∷ raw) h in (32 ∷ after, refl, (r.0, (r.1, refl)), more)
 
--- an item and those behind it
+-- an item and those after it
 items_are : (item : ItemText) (items : List ItemText) → AllByRecursion Clean (item ∷ items) → ArePieces (item_piece item ∷ behind items) None (item_text item ++ behind_text items)
 items_are item [] h = item_last item.quoted item.raw h.0
 items_are item (next ∷ items) h =

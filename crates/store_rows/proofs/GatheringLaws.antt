@@ -187,7 +187,7 @@ behind_from a [] up turn = refl
 behind_from a (b ∷ bs) up turn =
     and_from (follows a b) (follow_in_turn b bs) (and_from (is_lt (changed_order a b)) (follows_in_number a b) (ap is_lt up.0.0) turn.0) (behind_from b bs up.1 turn.1)
 
--- the first number behind 0 is 1
+-- the first number after 0 is 1
 first_number : (b : Bool) (n : ℕ) → 0 < n → cond b (eqb n 0 || eqb n 1) (eqb n 1) ≡ true → eqb n 1 ≡ true
 first_number true n some e = elim (or_cases (eqb n 0) (eqb n 1) e) [ inl none ↦ absurd (let no = eqb-true n 0 none in omega arith) | inr one ↦ one ]
 first_number false n some e = e

@@ -1,4 +1,4 @@
--- The changes of a zone, and those behind the first ones, by their rows.
+-- The changes of a zone, and those after the first ones, by their rows.
 use Rattle.std.proofs.Common.{◌≡◌, ℕ, zero, suc, ◌+◌, ◌-◌, ◌<◌, ◌≤◌, pos, Bool, true, false, ◌&&◌, cond, List, [], ◌∷◌, ◌++◌, map, filter, drop, take, Ok, Err, IsPermutation, IsSorted, refl, sym, ap, subst, ◌∙◌, arith, bytes_eq}
 use Rattle.std.proofs.lemmas.Bool.{lt-ltb}
 use Rattle.std.proofs.lemmas.Bool.Decides.{nat_tests}
@@ -227,7 +227,7 @@ meant_among o n count most cs =
     ∙ ap (filter (precedes (n + count + most))) (later_among o n count cs)
     ∙ earlier_among o (n + count) most (drop count cs)
 
--- the rows of changes of a zone behind the first ones, at most so many, in any order
+-- the rows of changes of a zone after the first ones, at most so many, in any order
 pub later_found : (z : ZoneRows) (o : Labels) (count most : ℕ) (all rows : List ChangeRowOf) → IsPermutation (zone_changes z) (changes_of (name_text o) all)
     → IsPermutation (changes_between (name_text o) (pos (1 + count)) (pos (1 + count + most)) all) rows
     → IsPermutation (changes_rows z.origin (1 + count) (take most (drop count z.changes))) rows

@@ -182,7 +182,7 @@ module _ (origins : List Labels) (are : AreOrigins origins) (i : ℕ) (o : Label
       made = elim which [ inl same ↦ subst (λ (z : Option ZoneOf). IfSome z (IsMadeOf (take (i + 1) origins) (done.done ++ own))) (sym same) (kept largest done.made) | inr new ↦ subst (λ (z : Option ZoneOf). IfSome z (IsMadeOf (take (i + 1) origins) (done.done ++ own))) (sym new) (next zone named made) ];
     }
 
--- behind the last zone
+-- after the last zone
 pub done_all : (origins : List Labels) (i : ℕ) (rs left : List ZoneRecord) (largest : Option ZoneOf) → AllByRecursion IsName origins → AllByRecursion IsZoneRecord rs → IsDone origins i rs left largest → left ≡ []
     → IfSome largest (λ zone. IsReadAmong origins (map row_of_record rs) zone)
 done_all origins i rs left largest names all done none = go largest done.made

@@ -20,7 +20,7 @@ Labels = List (List ℕ)
 
 module _ {X : Type 0} (first : Labels → List X → ℕ) (P : Labels → List X → Type 0) (Whole : Type 0) (origins : List Labels) (i : ℕ) (xs : List X) (left : AreInTurn first P (drop i origins) xs ↔ Whole) where
   module _ (o : Labels) (below : i < length origins) (is : o ≡ get_or origins i o) (n : ℕ) (n_is : n ≡ first o xs) where
-    -- the next zone, and those behind it
+    -- the next zone, and those after it
     abbrev Next : Type 0
     Next = P o (take n xs) × AreInTurn first P (drop (i + 1) origins) (drop n xs)
 
@@ -35,7 +35,7 @@ module _ {X : Type 0} (first : Labels → List X → ℕ) (P : Labels → List X
     to_next turn =
         subst (λ k. P o (take k xs) × AreInTurn first P (drop (i + 1) origins) (drop k xs)) (sym n_is) (subst (λ os. AreInTurn first P os xs) opened turn)
 
-    -- a zone that passes leaves those behind it
+    -- a zone that passes leaves those after it
     pub passes : P o (take n xs) → AreInTurn first P (drop (i + 1) origins) (drop n xs) ↔ Whole
     passes zone = (λ later. left.0 (from_next (zone, later)), λ whole. (to_next (left.1 whole)).1)
 
@@ -43,7 +43,7 @@ module _ {X : Type 0} (first : Labels → List X → ℕ) (P : Labels → List X
     pub stops : ¬ (P o (take n xs)) → (false ≡ true) ↔ Whole
     stops none = (λ e. absurd (let bad : false ≡ true = e in cc), λ whole. absurd (none (to_next (left.1 whole)).0))
 
-  -- behind the last zone nothing is left
+  -- after the last zone nothing is left
   pub ends : length origins ≤ i → (b : Bool) → b ≡ eqb (length xs) 0 → (b ≡ true) ↔ Whole
   ends past b b_is =
       let none : drop i origins ≡ [] = drop_all i origins past in (

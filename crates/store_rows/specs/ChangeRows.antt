@@ -112,7 +112,7 @@ changed_order_total =
 abbrev pub follows_in_number : ChangedRecord → ChangedRecord → Bool
 follows_in_number a b = if same_name a.origin b.origin then (b.number == a.number) || (b.number == suc a.number) else b.number == 1
 
--- right behind another: behind it in that order, and so in its number
+-- right after another: after it in that order, and so in its number
 abbrev pub follows : ChangedRecord → ChangedRecord → Bool
 follows a b = is_lt (changed_order a b) && follows_in_number a b
 

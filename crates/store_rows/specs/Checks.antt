@@ -156,7 +156,7 @@ records_first origin records = position_or_len (λ r. not (same_name r.origin or
 abbrev pub changes_first : List (List ℕ) → List ChangedRecord → ℕ
 changes_first origin changes = position_or_len (λ c. not (same_name c.origin origin)) changes
 
--- one zone after the other, each of the next origin, of what stands first; and nothing behind the last
+-- one zone after the other, each of the next origin, of what stands first; and nothing after the last
 abbrev pub AreInTurn : {X : Type 0} → (List (List ℕ) → List X → ℕ) → (List (List ℕ) → List X → Type 0) → List (List (List ℕ)) → List X → Type 0
 AreInTurn first P [] xs = xs ≡ []
 AreInTurn first P (origin ∷ origins) xs = P origin (take (first origin xs) xs) × AreInTurn first P origins (drop (first origin xs) xs)

@@ -214,7 +214,7 @@ changed_at row =
     record_at row.owner row.record_type row.rdata row.ttl >>= λ r.
     Ok (record { origin = origin; number = number; side = side; changed = r })
 
--- what has a number behind so many changes, numbered from 1
+-- what has a number after so many changes, numbered from 1
 abbrev pub renumbered : ℕ → ChangedRecord → Result ChangedRecord RowFault
 renumbered count c = if nat_lt count c.number then Ok (record c { number = c.number - count }) else Err BadRow
 
@@ -253,7 +253,7 @@ pub record AreStoredIn (rows : List ChangeRowOf) (changes : List ChangeOf) : Typ
   pub order : IsSorted changed_order sorted
   pub are : changes_among sorted ≡ Ok changes
 
--- changes have what each of the rows says, in order, behind so many others
+-- changes have what each of the rows says, in order, after so many others
 pub record AreStoredBehind (count : ℕ) (rows : List ChangeRowOf) (changes : List ChangeOf) : Type 0 where
   pub changed : List ChangedRecord
   pub sorted : List ChangedRecord

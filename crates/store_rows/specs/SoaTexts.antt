@@ -3,7 +3,7 @@ use Rattle.std.specs.Prelude.{ℕ, List, [], ◌∷◌, ◌++◌, decimal}
 use Rattle.dns_names.specs.Spelling.{name_text}
 use Rattle.dns_data.specs.declared.soa.SoaFields.{SoaFields}
 
--- the two names, with a space behind each
+-- the two names, with a space after each
 abbrev pub before_serial : SoaFields → List ℕ
 before_serial soa = name_text soa.mname ++ 32 ∷ name_text soa.rname ++ 32 ∷ []
 

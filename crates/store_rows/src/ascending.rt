@@ -48,7 +48,7 @@ impl Ordered for Record {
     ghost total = { record_order_total };
 }
 
-/// Whether the first of some stands behind one, and each before the next one.
+/// Whether the first of some stands after one, and each before the next one.
 fn rise_above<T: Ordered>(first: &T, others: &[T]) -> bool
     ensures { result ≡ rises_above T.Ordered.compare first.now others.now }
 {

@@ -94,7 +94,7 @@ impl ChangeReader {
         })
     }
 
-    /// What a row has behind so many changes, numbered from 1. Its spelling is not looked at.
+    /// What a row has after so many changes, numbered from 1. Its spelling is not looked at.
     pub(crate) fn row_behind(
         &mut self,
         alloc: Global,
@@ -108,7 +108,7 @@ impl ChangeReader {
     }
 }
 
-/// What a row has, with its change numbered from 1 behind so many changes. A number of one of these is `BadRow`.
+/// What a row has, with its change numbered from 1 after so many changes. A number of one of these is `BadRow`.
 fn renumbered(mut changed: ChangedRecord, count: u32) -> Result<ChangedRecord, RowFault>
     ensures { result ≡ renumbered count changed }
 {

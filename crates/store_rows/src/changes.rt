@@ -48,7 +48,7 @@ fn row_on_side(
     })
 }
 
-/// Puts the rows of records on a side of a change behind others. The only error is out of memory.
+/// Puts the rows of records on a side of a change after others. The only error is out of memory.
 fn push_side(
     alloc: Global,
     rows: &mut Vec<ChangeRow>,

@@ -51,7 +51,7 @@ pub(crate) fn stored_changes(alloc: Global, rows: Vec<ChangeRow>) -> Result<Vec<
     changes_among(alloc, in_order(changed)?)
 }
 
-/// Reads the rows of the changes of one zone behind the first ones, so many, in any order, as these changes, the oldest first. A row of
+/// Reads the rows of the changes of one zone after the first ones, so many, in any order, as these changes, the oldest first. A row of
 /// one of the first ones is `BadRow`.
 pub(crate) fn stored_behind(
     alloc: Global,
@@ -101,7 +101,7 @@ fn stored_by(
     Ok(changed)
 }
 
-/// What each row has behind so many changes.
+/// What each row has after so many changes.
 fn each_behind(
     alloc: Global,
     rows: &[ChangeRow],
@@ -205,7 +205,7 @@ pub(crate) fn in_order(changed: Vec<ChangedRecord>) -> Result<Vec<ChangedRecord>
     sorted(changed)
 }
 
-/// Whether one stands right behind another: behind it in order; and of the same zone and the same change or the next one, or of the
+/// Whether one stands right after another: after it in order; and of the same zone and the same change or the next one, or of the
 /// first change of another zone.
 fn follows(first: &ChangedRecord, second: &ChangedRecord) -> bool
     ensures { result ≡ follows first.now second.now }
@@ -223,7 +223,7 @@ fn follows_in_number(first: &ChangedRecord, second: &ChangedRecord) -> bool
     second.number == first.number || second.number.checked_sub(1) == Some(first.number)
 }
 
-/// Whether each of some stands right behind the one before it, and the first behind this one.
+/// Whether each of some stands right after the one before it, and the first after this one.
 fn follow_in_turn(first: &ChangedRecord, others: &[ChangedRecord]) -> bool
     ensures { result ≡ follow_in_turn first.now others.now }
 {
@@ -282,7 +282,7 @@ fn with_record(mut change: Change, side: Side, rr: Record) -> Result<Change, All
     Ok(change)
 }
 
-/// Puts a change without a record behind others, where there are fewer than this number. The only error is out of memory.
+/// Puts a change without a record after others, where there are fewer than this number. The only error is out of memory.
 fn opened(alloc: Global, changes: &mut Vec<Change>, number: u64) -> Result<(), AllocError>
     ensures { OnOk result (map change_in changes.new.items ≡ opened (map change_in changes.old.items) number) }
 {
@@ -295,7 +295,7 @@ fn opened(alloc: Global, changes: &mut Vec<Change>, number: u64) -> Result<(), A
     Ok(())
 }
 
-/// Puts what a row has into the last change, or into a new one behind it. The only error is out of memory.
+/// Puts what a row has into the last change, or into a new one after it. The only error is out of memory.
 fn place(alloc: Global, changes: &mut Vec<Change>, changed: ChangedRecord) -> Result<(), AllocError>
     ensures { OnOk result (map change_in changes.new.items ≡ placed (map change_in changes.old.items) changed) }
 {

@@ -24,7 +24,7 @@ fn larger(first: Option<Zone>, second: Zone) -> Option<Zone>
 }
 
 /// The zone of the origin of which most records are. Records are `BadRow` where they are not, one after the other, those of zones of
-/// these origins, with nothing behind the last.
+/// these origins, with nothing after the last.
 pub(crate) fn largest_zone(
     alloc: Global,
     origins: &[Name],

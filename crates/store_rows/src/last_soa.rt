@@ -16,7 +16,7 @@ fn are_digits_of(octets: &[u8], number: u32) -> bool
     Buffer::new().format(number).as_bytes() == octets
 }
 
-/// The data of an SOA record, with what their canonical text has before the serial and behind it.
+/// The data of an SOA record, with what their canonical text has before the serial and after it.
 #[derive(Drop)]
 pub(crate) struct LastSoa {
     fields: SoaFields,

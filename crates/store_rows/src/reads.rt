@@ -172,7 +172,7 @@ pub fn changes_of(alloc: Global, rows: Vec<ChangeRow>) -> Result<Vec<Change>, Ro
     stored_changes(alloc, rows)
 }
 
-/// Changes of a zone behind the first ones, so many, the oldest first, by their rows in any order. Rows that are those of no such
+/// Changes of a zone after the first ones, so many, the oldest first, by their rows in any order. Rows that are those of no such
 /// changes are `BadRow`.
 pub fn changes_behind(
     alloc: Global,

@@ -82,7 +82,7 @@ pub fn are_apart(names: &[Name]) -> bool
 }
 
 /// Whether what changes have is, one zone after the other, that of the changes of zones of these origins, numbered from 1 in each, and
-/// nothing is left behind the last.
+/// nothing is left after the last.
 fn are_changes_of(origins: &[Name], changes: &[ChangedRecord]) -> bool
     ensures { (result ≡ true) ↔ AreChangesInTurn origins.now changes.now }
 {

@@ -59,7 +59,7 @@ module _ (old new : State) where
   inside_leaves sql params (Err e) (inl h) = elim h.1 [ inl same ↦ unchanged_keeps same | inr back ↦ rolled_keeps back ]
   inside_leaves sql params (Err e) (inr h) = unchanged_keeps h.2
 
-  -- a statement inside a transaction, or behind the end of one
+  -- a statement inside a transaction, or after the end of one
   pub inside_keeps : (sql : List ℕ) (params : Row) (r : Result ℕ Error) (inside : Bool) → old.in_transaction ≡ inside → (old.in_transaction ≡ false → new ≡ old) → (IsTrue old.in_transaction → ExecutesInside 0 sql params old new r) → KeepsCommit old new
   inside_keeps sql params r true is ended runs = inside_leaves sql params r (runs is)
   inside_keeps sql params r false is ended runs = subst (KeepsCommit old) (sym (ended is)) (record { was_open = λ up. up; committed = λ up. refl })

@@ -34,7 +34,7 @@ numbered_more stored rows ids xs row id x h one = record {
   readable = subst (AllByRecursion IsReadableRow) (sym (map-append (drop 1) rows (row ∷ []))) (all-append IsReadableRow (map (drop 1) rows) (drop 1 row ∷ []) h.readable (one.readable, tt));
 }
 
--- among rows that all have a rowid and a value with a property, so has the one behind some
+-- among rows that all have a rowid and a value with a property, so has the one after some
 pub numbered_behind : {X : Type 0} (stored : X → Row) (P : X → Type 0) (given : List Row) (row : Row) (tail : List Row) (ids : List ℤ) (xs : List X) → AreNumbered stored ((given ++ row ∷ []) ++ tail) ids xs → AllByRecursion P xs
     → (id : ℤ) × (x : X) × Numbers stored row id x × P x
 numbered_behind stored P [] row tail [] xs h all = absurd (let none = h.first in cc)

@@ -54,7 +54,7 @@ use Rattle.store_sql.proofs.Values.{bytes_eq_sym, same_text, same_number, equal_
 pub plainly : (tree : ℕ) → nat_le (2 ^ 31) tree ≡ false → (db : Trees) → overlay db [] tree ≡ db tree
 plainly tree low db = rw low refl
 
--- the trees of `receipts` and `changes` are behind those of the other tables
+-- the trees of `receipts` and `changes` are after those of the other tables
 pub receipts_between : (l : Layout) → (4 < receipts_tree l) × (receipts_tree l < 7)
 receipts_between IndexAfterRecords = (omega arith, omega arith)
 receipts_between IndexLast = (omega arith, omega arith)

@@ -162,7 +162,7 @@ written_in_turn text w zones are a b c d e z one two three four five =
     ap (λ (r : RowsOf). let q : RowsOf = record r { versions = versions_with w.version r.versions } in q) at_kept)
     (part_then a e z _ _ (part_then a d e _ _ (part_then a c d _ _ (part_then a b c _ _ one two) three) four) five)
 
--- one row less before the others or behind them
+-- one row less before the others or after them
 pub without_first : (k : RecordRowOf) (gone : List RecordRowOf) (rows : List RecordRowOf) → without (k ∷ gone) rows ≡ filter (λ r. not (same_key k r)) (without gone rows)
 without_first k gone rows =
     filter_twice (λ r. not (same_key k r)) (λ r. not (list_any (λ g. same_key g r) gone)) (λ r. not (list_any (λ g. same_key g r) (k ∷ gone))) rows

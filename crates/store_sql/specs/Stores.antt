@@ -37,7 +37,7 @@ pub record Stores (rows : List Row) (xs : List Row) : Type 0 where
 abbrev pub IsOneToOne : {X : Type 0} → (X → Row) → Type 0
 IsOneToOne stored = (x y : _) → stored x ≡ stored y → x ≡ y
 
--- a row of an answer has this rowid, and behind it what is stored of a value
+-- a row of an answer has this rowid, and after it what is stored of a value
 pub record Numbers {X : Type 0} (stored : X → Row) (row : Row) (id : ℤ) (x : X) : Type 0 where
   pub first : rowid row ≡ Int id
   pub rest : drop 1 row ≡ stored x

@@ -129,7 +129,7 @@ receipts_key l = key_index (codes "sqlite_autoindex_receipts_1") (receipts_tree 
 abbrev pub changes_key : Layout → Index
 changes_key l = key_index (codes "sqlite_autoindex_changes_1") (changes_tree l) (1 ∷ 2 ∷ 3 ∷ 4 ∷ 5 ∷ 6 ∷ [])
 
--- the indexes behind those of the keys of `zones` and `records`
+-- the indexes after those of the keys of `zones` and `records`
 abbrev pub later_indexes : Layout → List Index
 later_indexes IndexAfterRecords = records_by_key IndexAfterRecords ∷ receipts_key IndexAfterRecords ∷ changes_key IndexAfterRecords ∷ []
 later_indexes IndexLast = receipts_key IndexLast ∷ changes_key IndexLast ∷ records_by_key IndexLast ∷ []

@@ -3,7 +3,7 @@ use Rattle.std.specs.Prelude.{ℤ, List, ◌++◌}
 use Rattle.sqlite_value.specs.Order.{Row}
 use Rattle.store_sql.specs.Stores.{AreNumbered}
 
--- what had taken some rows has taken these behind them
+-- what had taken some rows has taken these after them
 abbrev pub TakesMore : {C R : Type 0} → (C → List R → Type 0) → C → C → List R → Type 0
 TakesMore {C} {R} has_taken old new rows = (before : List R) → has_taken old before → has_taken new (before ++ rows)
 

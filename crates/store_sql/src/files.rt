@@ -165,7 +165,7 @@ pub fn connect<D: Disk + Drop>(
     ensures named { IfErr result (λ e. IsTrue (is_open_error e.0)) }
     // When each of them comes.
     ensures cause { IfErr result (λ e. IsCleanLeft e.1 → (kind : StoreError) × FailsToOpenAs kind files e.1 e.0) }
-    // Behind a refusal files that held something hold it still, whatever a crash leaves of them.
+    // After a refusal files that held something hold it still, whatever a crash leaves of them.
     ensures unharmed { IfErr result (λ e. IsCleanLeft e.1 → ¬ IsBlank (image_of D.Disk files) → LeavesFiles files e.1) }
 {
     let mut files = files;

@@ -36,7 +36,7 @@ fn has_columns(row: &Row, first: usize, count: usize) -> bool
 /// The value at a place among the columns from a first one on. `BadRow` comes where the row ends before it or the value is of another
 /// type, and `NoMemory` where memory runs out.
 fn value_at<T: FromSql>(row: &Row, first: usize, at: usize) -> Result<T, RowsFault>
-    // Seven columns behind a rowid are the most that a table has.
+    // Seven columns after a rowid are the most that a table has.
     requires { first + at ≤ 7 }
     ensures found { IfOk result (λ x. (at < length (drop first row.now)) × T.FromSql.reads_as (column (drop first row.now) at) x) }
     ensures bad { result ≡ Err BadRow → at < length (drop first row.now) → ¬ T.FromSql.is_readable (column (drop first row.now) at) }

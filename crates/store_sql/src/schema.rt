@@ -252,7 +252,7 @@ fn is_records_by_key(index: &Index, layout: Layout) -> bool
     )
 }
 
-/// Whether these are the indexes behind those of the keys of `zones` and `records`.
+/// Whether these are the indexes after those of the keys of `zones` and `records`.
 fn are_later(third: &Index, fourth: &Index, fifth: &Index, layout: Layout) -> bool
     ensures { (result ≡ true) ↔ (third.now ∷ fourth.now ∷ fifth.now ∷ [] ≡ later_indexes layout) }
 {

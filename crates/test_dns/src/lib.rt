@@ -10,7 +10,7 @@
 //! `data-at ORIGIN TYPE ITEMS` read data and print their text, and `count TYPE ITEMS` how many strings or octets they have;
 //! `ipv4 NUMBERS` and `ipv6 GROUPS` print addresses. One space stands between items, and a quoted item in its quotes.
 //! `line OWNER TTL TYPE ITEMS` prints a record, `same` compares the two records of its body, and `ranked RECORD` tells how
-//! many records of earlier such rows a record stands behind and before.
+//! many records of earlier such rows a record stands after and before.
 //!
 //! `files`: the body of a row is a master file. `tokens` prints its items, each as `ITEM@START:LINE:ENTRY`, with its quotes if it
 //! has them; `entries` counts its items, and those of each entry with its line; `file ORIGIN` prints the lines of its records;

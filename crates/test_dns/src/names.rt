@@ -85,7 +85,7 @@ fn push_whether_same(again: &Name, name: &Name, answer: &mut Vec<u8>) -> Result<
     push(", which is another name", answer)
 }
 
-/// Appends what a row asks of its name and of the one behind that.
+/// Appends what a row asks of its name and of the one after that.
 fn push_of_two(alloc: Global, row: &Row<'_>, answer: &mut Vec<u8>) -> Result<(), NameFault> {
     let (first, second) = row.split();
     let first = Name::read_absolute(alloc, first)?;

@@ -45,7 +45,7 @@ fn records(alloc: Global, body: &[u8]) -> Result<Vec<Record>, DataFault> {
     Ok(records)
 }
 
-/// Ranks a record too, and tells how many of those that were ranked before it stands behind and before.
+/// Ranks a record too, and tells how many of those that were ranked before it stands after and before.
 pub fn rank(alloc: Global, ranked: &mut Vec<Record>, text: &[u8]) -> Result<String, DataFault> {
     ranked.push(record(alloc, text)?)?;
     match ranked.as_slice() {
@@ -64,7 +64,7 @@ fn rank_behind(alloc: Global, earlier: &[Record], record: &Record) -> Result<Str
     Ok(format!(in alloc; "behind {behind}, before {before}{end}")?)
 }
 
-/// How many records another one stands behind, and how many before.
+/// How many records another one stands after, and how many before.
 fn ranks(earlier: &[Record], record: &Record) -> (usize, usize) {
     let (mut behind, mut before) = (0usize, 0usize);
     for other in earlier {
@@ -78,7 +78,7 @@ fn ranks(earlier: &[Record], record: &Record) -> (usize, usize) {
     (behind, before)
 }
 
-/// Whether the first stands before the second, and the second behind the first.
+/// Whether the first stands before the second, and the second after the first.
 fn are_in_order(first: &Record, second: &Record) -> bool {
     record_order(first, second).is_lt() && record_order(second, first).is_gt()
 }

@@ -18,7 +18,7 @@ enum End {
     Closed,
 }
 
-/// The disks behind a connection, and whether the log was copied.
+/// The disks after a connection, and whether the log was copied.
 #[derive(Drop)]
 struct Left<D: Disk> {
     disks: Files<D>,

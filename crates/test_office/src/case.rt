@@ -77,7 +77,7 @@ impl Case {
         Ok(())
     }
 
-    /// Appends to the last stream, and prints what is answered to it behind what was.
+    /// Appends to the last stream, and prints what is answered to it after what was.
     pub fn send(
         &mut self,
         alloc: Global,

@@ -2,7 +2,7 @@ use anyhow::Result;
 use std::alloc::Global;
 use test_rows::Row;
 
-/// What is done to a store: a verb, what stands behind it, and the lines below.
+/// What is done to a store: a verb, what stands after it, and the lines below.
 #[derive(Drop)]
 pub struct Deed {
     pub verb: String,
@@ -23,7 +23,7 @@ impl Deed {
         Deed::new(alloc, row.verb, &row.text, &row.body)
     }
 
-    /// What stands behind the verb of a row.
+    /// What stands after the verb of a row.
     pub fn behind_verb(alloc: Global, row: &Row<'_>) -> Result<Deed> {
         let (verb, text) = row.split();
         Deed::new(alloc, str::from_utf8(verb)?, text, &row.body)

@@ -7,7 +7,7 @@ use std::alloc::{AllocError, Global};
 /// What becomes of a stream.
 #[derive(Clone, Copy, PartialEq, Eq)]
 pub enum Spoiling {
-    /// It ends behind some octets.
+    /// It ends after some octets.
     Cut,
     /// One of its reads fails.
     Read,
@@ -53,7 +53,7 @@ pub fn without_front(
     Ok(told)
 }
 
-/// Appends what was told, each once, behind the numbers at which it was told one after the other, from 1 on.
+/// Appends what was told, each once, after the numbers at which it was told one after the other, from 1 on.
 pub fn push_runs(alloc: Global, outcomes: &[Told], answer: &mut Vec<u8>) -> Result<(), AllocError> {
     let mut from = 1usize;
     for (before, told) in outcomes.iter().enumerate() {
@@ -68,7 +68,7 @@ pub fn push_runs(alloc: Global, outcomes: &[Told], answer: &mut Vec<u8>) -> Resu
     Ok(())
 }
 
-/// Appends each part that was told and is not empty, with a line end behind it.
+/// Appends each part that was told and is not empty, with a line end after it.
 pub fn push_parts(told: &[Vec<u8>], answer: &mut Vec<u8>) -> Result<(), AllocError> {
     for part in told {
         answer.extend_from_slice(part)?;

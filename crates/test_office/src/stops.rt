@@ -82,7 +82,7 @@ impl Stops {
         Ok(())
     }
 
-    /// Goes through the stops of what stands behind the first word of a row.
+    /// Goes through the stops of what stands after the first word of a row.
     fn stop(&self, alloc: Global, row: &Row<'_>, answer: &mut Vec<u8>) -> Result<()> {
         push_trial(alloc, &self.trial(alloc, row)?, &self.store.held, answer)
     }

@@ -116,7 +116,7 @@ pub fn over_failing(
     answered_behind(alloc, given, told, table, rest)
 }
 
-/// What was told, and behind it what a table answers to more steps.
+/// What was told, and after it what a table answers to more steps.
 fn answered_behind<T: ZoneTable + Drop>(
     alloc: Global,
     given: &Given,

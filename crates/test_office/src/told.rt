@@ -44,7 +44,7 @@ pub(crate) fn told<S: Alter + Drop, L: Ledger>(
     }
 }
 
-/// What it tells of each line, one below the other. A line may have one item of an update behind a `|`.
+/// What it tells of each line, one below the other. A line may have one item of an update after a `|`.
 fn looked<S: Alter + Drop, L: Ledger>(
     alloc: Global,
     table: &mut SqlTable<S, L>,

@@ -1,4 +1,4 @@
-//! What is found behind stops.
+//! What is found after stops.
 
 use crate::acting::{Closing, act, act_and_close};
 use crate::deed::Deed;
@@ -15,7 +15,7 @@ pub struct Trial {
     pub look: Deed,
 }
 
-/// What the look tells where no disk stops, before and behind it, and what is told of it and of the same once more.
+/// What the look tells where no disk stops, before and after it, and what is told of it and of the same once more.
 #[derive(Drop)]
 pub struct Whole {
     old: Vec<u8>,
@@ -24,7 +24,7 @@ pub struct Whole {
     twice: Vec<u8>,
 }
 
-/// What a store is behind a stop.
+/// What a store is after a stop.
 #[derive(Clone, Copy, PartialEq, Eq)]
 enum Found {
     Old,
@@ -67,7 +67,7 @@ impl Trial {
         act(alloc, held, Stop::NEVER, &self.policy, &self.deed)
     }
 
-    /// Sees what is found on disks behind a stop, and that the same can be done then.
+    /// Sees what is found on disks after a stop, and that the same can be done then.
     fn see(&self, alloc: Global, whole: &Whole, held: &Held) -> Result<Found> {
         let (text, held) = self.look_at(alloc, held)?;
         let found = whole.found(&text)?;
@@ -88,7 +88,7 @@ impl Trial {
         Ok(())
     }
 
-    /// Does it over disks that stop and closes the store, and sees what is found behind that, unless the last stop left the same on the
+    /// Does it over disks that stop and closes the store, and sees what is found after that, unless the last stop left the same on the
     /// disks. Tells whether it was done, and the store closed.
     fn is_done(
         &self,

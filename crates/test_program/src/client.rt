@@ -11,7 +11,7 @@ pub fn begun(rt: &HostRuntime, listener: &TcpListener, text: &[u8]) -> Result<Tc
     Ok(caller)
 }
 
-/// The same, and nothing comes behind it.
+/// The same, and nothing comes after it.
 pub fn sent(rt: &HostRuntime, listener: &TcpListener, text: &[u8]) -> Result<TcpStream> {
     let caller = begun(rt, listener, text)?;
     caller.shutdown(Shutdown::Write)?;

@@ -10,7 +10,7 @@
 //! the program writes of the body, and its exit status; `STORE` and `POLICY` are the two paths. `request WORDS` prints what it writes
 //! without the port at which it listens, and what a client is answered that calls it there with the body.
 //!
-//! `callers`: an office over sockets. `listen` begins with no callers. `call` connects and sends what stands below and nothing behind
+//! `callers`: an office over sockets. `listen` begins with no callers. `call` connects and sends what stands below and nothing after
 //! it, `begin` leaves that side open, and `leave N` sends the same N times and is gone. `answer N` serves N connections from a table in
 //! memory, and prints what the office tells and its trace, and then what each caller that is there was answered; `once N` does so with
 //! connections that get too old with their first request.

@@ -7,7 +7,7 @@ use std::io::Write;
 
 /// What a test program answers to its rows.
 pub trait Answers {
-    /// Appends the answer to a row, without a line end behind it.
+    /// Appends the answer to a row, without a line end after it.
     fn answer(
         &mut self,
         alloc: Global,

@@ -11,7 +11,7 @@ pub fn push_octets(text: &str, octets: &mut Vec<u8>) -> Result<(), AllocError> {
     Ok(())
 }
 
-/// Appends what stands between `<` and the next one: what is spelled before its `>`, and then the text behind that.
+/// Appends what stands between `<` and the next one: what is spelled before its `>`, and then the text after that.
 fn push_piece(piece: &str, octets: &mut Vec<u8>) -> Result<(), AllocError> {
     let Some((spelled, plain)) = piece.split_once('>') else {
         return Ok(());

@@ -1,7 +1,7 @@
 use crate::octets::push_octets;
 use std::alloc::{AllocError, Global};
 
-/// The text before its first space, and what stands behind it; all of it, and nothing, where there is no space.
+/// The text before its first space, and what stands after it; all of it, and nothing, where there is no space.
 pub fn word(text: &[u8]) -> (&[u8], &[u8]) {
     match text.iter().position(|octet| *octet == b' ') {
         Some(at) => (&text[..at], &text[at + 1..]),
@@ -24,7 +24,7 @@ pub fn number(text: &[u8]) -> Option<usize> {
 pub struct Row<'a> {
     /// The first word of the line.
     pub verb: &'a str,
-    /// What stands behind the first word and a space.
+    /// What stands after the first word and a space.
     pub text: Vec<u8>,
     /// The lines below.
     pub body: Vec<u8>,
@@ -55,7 +55,7 @@ impl<'a> Row<'a> {
         }
     }
 
-    /// The first word of the text, and what stands behind it.
+    /// The first word of the text, and what stands after it.
     pub fn split(&self) -> (&[u8], &[u8]) {
         word(&self.text)
     }

@@ -9,7 +9,7 @@ pub fn text_of(octets: &[u8]) -> Result<&str, Refusal> {
     str::from_utf8(octets).or(Err(Refusal::Columns))
 }
 
-/// The text before its first bar, and what stands behind it.
+/// The text before its first bar, and what stands after it.
 fn column(text: &str) -> Result<(&str, &str), Refusal> {
     text.split_once('|').ok_or(Refusal::Columns)
 }

@@ -49,7 +49,7 @@ impl Stop {
         loss: Loss::Nothing,
     };
 
-    /// A disk stops behind so many calls.
+    /// A disk stops after so many calls.
     pub fn behind(stopping: Stopping, calls: u64, loss: Loss) -> Stop {
         match stopping {
             Stopping::Log => Stop {
@@ -74,7 +74,7 @@ fn disk(alloc: Global, octets: &[u8], calls: u64) -> Result<MemoryDisk> {
     Ok(Fuse::new(memory, calls))
 }
 
-/// What a disk holds behind a stop of the machine.
+/// What a disk holds after a stop of the machine.
 fn octets_behind(alloc: Global, disk: MemoryDisk, loss: Loss) -> Result<Vec<u8>> {
     let mut disk = disk;
     if loss == Loss::Unsynced {
@@ -136,7 +136,7 @@ impl Held {
         Held::behind(alloc, disks, Stop::NEVER)
     }
 
-    /// What two disks hold behind a stop of the machine.
+    /// What two disks hold after a stop of the machine.
     pub fn behind(alloc: Global, disks: Disks, stop: Stop) -> Result<Held> {
         let Files { log, db } = disks;
         let log = octets_behind(alloc, log, stop.loss)?;

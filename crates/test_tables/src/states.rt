@@ -88,7 +88,7 @@ impl Kept {
         push_is_state(alloc, row, self.reversed(alloc, row)?, answer)
     }
 
-    /// The rows that are kept, with those of a body behind them, or without those.
+    /// The rows that are kept, with those of a body after them, or without those.
     fn rows(&self, alloc: Global, row: &Row<'_>) -> Result<AllRows> {
         let mut rows = no_rows(alloc);
         for line in str::from_utf8(&self.lines)?.lines() {

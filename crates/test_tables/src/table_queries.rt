@@ -164,7 +164,7 @@ pub fn push_versions<S: Alter>(
     push_lines(texts, answer)
 }
 
-/// Appends all rows, each behind what it is.
+/// Appends all rows, each after what it is.
 pub fn push_all<S: Alter>(
     alloc: Global,
     conn: &mut Connection<S>,

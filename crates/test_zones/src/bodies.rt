@@ -65,7 +65,7 @@ fn push_reply(alloc: Global, row: &Row<'_>, answer: &mut Vec<u8>) -> Result<(), 
     Ok(reply_text(&reply, answer)?)
 }
 
-/// The delegation of a row, behind the origin of its zone.
+/// The delegation of a row, after the origin of its zone.
 fn delegation(alloc: Global, row: &Row<'_>) -> Result<UpdateBody, BodyFault> {
     let (origin, body) = row.split();
     read_delegation(alloc, body, &Name::read_absolute(alloc, origin)?)

@@ -26,7 +26,7 @@ pub fn call_of(alloc: Global, row: &Row<'_>) -> Result<Call> {
     call(alloc, row.verb, &row.text, &row.body)
 }
 
-/// The call of a verb, of what stands behind it, and of the lines below.
+/// The call of a verb, of what stands after it, and of the lines below.
 pub fn call(alloc: Global, verb: &str, text: &[u8], body: &[u8]) -> Result<Call> {
     let (caller, rest) = word(text);
     Ok(Call {
@@ -116,7 +116,7 @@ fn delegated(alloc: Global, origin: &Name, text: &[u8], body: &[u8]) -> Result<U
     Ok(delegation_update(alloc, origin, &request)?)
 }
 
-/// The servers of lines, each with its addresses behind it.
+/// The servers of lines, each with its addresses after it.
 fn servers(alloc: Global, text: &str) -> Result<Vec<ChildServer>> {
     let mut servers = Vec::new(alloc);
     for line in text.lines() {

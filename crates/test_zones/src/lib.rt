@@ -5,7 +5,7 @@
 //! number of each time, from 0. `build` keeps the policy of the rules of its body, a line `ID EFFECT CALLER SCOPE AT TYPES ACTIONS`
 //! each. Of the policy that is kept, `decide CALLER NAME TYPE ACTION` tells the decision, with the rule that made it, and
 //! `rights CALLER NAME` whether the caller has any right there; `idle` prints each rule that never decides with those that take its
-//! questions behind a colon, by their ids. `covers AT NAME` tells which scopes cover the name;
+//! questions after a colon, by their ids. `covers AT NAME` tells which scopes cover the name;
 //! `identifier TEXT` reads an identifier, and `identifiers ONE OTHER` compares two; `effect WORD`, `scope WORD` and
 //! `action WORD` read a word.
 //!
@@ -27,7 +27,7 @@
 //! `reply WORDS` to an update, `id-reused`, `servfail`, `not-auth`, `not-zone`, `granted RULE`, `denied RULE` or `denied` by the
 //! closing default; `records` and `file ORIGIN`, with the items that add the records below; `changes`, with lines
 //! `NUMBER|REMOVED|ADDED` of such items; `delegations`, with lines `CHILD|GLUE SERVER|..`; and `refusals FORMERR REFUSAL` prints the
-//! bodies of two refusals behind each other.
+//! bodies of two refusals after each other.
 //!
 //! Calls of the office, which the crates above ask of their tables: `update CALLER ID ORIGIN` with item lines,
 //! `delegate CALLER ID ORIGIN CHILD TTL` with lines `SERVER ADDRESS..`, `list CALLER ORIGIN`, `list-within CALLER ORIGIN TOP`,

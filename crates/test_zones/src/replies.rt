@@ -21,7 +21,7 @@ fn push_line(text: &str, told: &mut Vec<u8>) -> Result<(), AllocError> {
     push(text, told)
 }
 
-/// Appends a line for each record, behind a sign.
+/// Appends a line for each record, after a sign.
 pub fn push_records(
     alloc: Global,
     sign: &str,
@@ -108,7 +108,7 @@ fn push_server(
     push(&format!(in alloc; " {name} {glue}")?, told)
 }
 
-/// Appends lines of records behind a sign.
+/// Appends lines of records after a sign.
 fn push_lines(
     alloc: Global,
     sign: &str,
@@ -121,7 +121,7 @@ fn push_lines(
     Ok(())
 }
 
-/// Appends changes: a line with the number of each, and its records behind their signs.
+/// Appends changes: a line with the number of each, and its records after their signs.
 fn push_changes(
     alloc: Global,
     changes: &[NumberedChange],

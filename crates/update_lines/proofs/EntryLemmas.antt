@@ -14,7 +14,7 @@ use Rattle.update_lines.specs.ItemFaults.{◌>>=◌, Refuses, of_shape, of_shape
 use Rattle.update_lines.specs.Reading.{EntryLine, entry_line, lists_in, lists_of}
 use Rattle.update_lines.specs.Views.{goes_on, before, gathered}
 
--- the entries behind one begin with another number
+-- the entries after one begin with another number
 goes_not_on : (text : List ℕ) (k : ℕ) (es : List Entry) → AreFilled es → goes_on k (tokens_from text (suc k) es) ≡ false
 goes_not_on text k [] h = refl
 goes_not_on text k (e ∷ es) h = first_other e.items h.0

@@ -31,7 +31,7 @@ one_more t u ts es items same e =
 none_more : (t u : Token) (es : List EntryLine) → eqb u.entry t.entry ≡ false → before (eqb u.entry t.entry) (token_of t) es ≡ lined t.line (item_of t.item ∷ []) ∷ es
 none_more t u es other = ap (λ (b : Bool). before b (token_of t) es) other
 
--- the tokens of an entry are gathered, and then those behind them
+-- the tokens of an entry are gathered, and then those after them
 pub gathered_first : (t : Token) (ts : List Token) → gathered (map token_of (t ∷ ts)) ≡ lined t.line (item_of t.item ∷ entry_of (take (run t.entry ts) ts)) ∷ gathered (map token_of (drop (run t.entry ts) ts))
 gathered_first t [] = refl
 gathered_first t (u ∷ ts) = by_entry (eqb u.entry t.entry) refl (gathered_first u ts)
@@ -56,7 +56,7 @@ whole_first t ts =
 
 -- ---- the items of entries, one entry after the other
 
--- what is read of the entries behind those of lists
+-- what is read of the entries after those of lists
 abbrev pub then_lists : UpdateOf → Result UpdateOf ItemsFault → Result UpdateOf ItemsFault
 then_lists front read = read >>= λ back. Ok (behind front back)
 

@@ -89,7 +89,7 @@ type_found item t e =
 type_only : (raw : List ℕ) (t : RecordType) → IsCalled t raw → type_at (plain raw) ≡ Some t
 type_only raw t h = (named_called raw t).1 h
 
--- ---- what stands behind the words is in the grammar
+-- ---- what stands after the words is in the grammar
 
 name_alone_found : (texts : List ItemText) (name : Labels) → AreBytes texts → name_alone texts ≡ Some name → IsNameItem None name texts
 name_alone_found [] name bytes e = absurd cc
@@ -213,7 +213,7 @@ record_only texts r h =
 
 -- ---- prerequisites and operations
 
--- a prerequisite of this kind, with what stands behind its word
+-- a prerequisite of this kind, with what stands after its word
 pub record TestRead (kind : PrerequisiteKind) (texts : List ItemText) (p : Prerequisite) : Type 0 where
   pub kind_is : prerequisite_kind p ≡ kind
   pub texts_are : TestsText p texts
@@ -235,7 +235,7 @@ test_only (RrsetAbsent name t) texts h = ap (λ (o : Option (Labels × RecordTyp
 test_only (NameUsed name) texts h = ap (λ (o : Option Labels). o >>? λ n. Some (NameUsed n)) (name_alone_only texts name h)
 test_only (NameUnused name) texts h = ap (λ (o : Option Labels). o >>? λ n. Some (NameUnused n)) (name_alone_only texts name h)
 
--- an operation of this kind, with what stands behind its word
+-- an operation of this kind, with what stands after its word
 pub record ChangeRead (kind : OperationKind) (texts : List ItemText) (op : Operation) : Type 0 where
   pub kind_is : operation_kind op ≡ kind
   pub texts_are : ChangesText op texts

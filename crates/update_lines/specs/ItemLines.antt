@@ -62,7 +62,7 @@ pub record IsRecordText (r : Record) (items : List ItemText) : Type 0 where
 
 -- ---- items
 
--- what stands behind the word of a prerequisite (RFC 2136 section 2.4)
+-- what stands after the word of a prerequisite (RFC 2136 section 2.4)
 abbrev pub TestsText : Prerequisite → List ItemText → Type 0
 TestsText (RrsetExists name record_type) items = IsSetText name record_type items
 TestsText (RrsetEquals name rdata) items = IsDatumText name rdata items
@@ -70,14 +70,14 @@ TestsText (RrsetAbsent name record_type) items = IsSetText name record_type item
 TestsText (NameUsed name) items = IsNameItem None name items
 TestsText (NameUnused name) items = IsNameItem None name items
 
--- what stands behind the word of an operation (RFC 2136 section 2.5)
+-- what stands after the word of an operation (RFC 2136 section 2.5)
 abbrev pub ChangesText : Operation → List ItemText → Type 0
 ChangesText (Add r) items = IsRecordText r items
 ChangesText (DeleteRrset name record_type) items = IsSetText name record_type items
 ChangesText (DeleteName name) items = IsNameItem None name items
 ChangesText (DeleteRecord name rdata) items = IsDatumText name rdata items
 
--- the word of an item as it is written, unquoted, and what stands behind it
+-- the word of an item as it is written, unquoted, and what stands after it
 abbrev pub IsItem : UpdateItem → List ItemText → Type 0
 IsItem (items.Prerequisite p) texts = (rest : List ItemText) × (texts ≡ plain (prerequisite_word (prerequisite_kind p)) ∷ rest) × TestsText p rest
 IsItem (items.Operation op) texts = (rest : List ItemText) × (texts ≡ plain (operation_word (operation_kind op)) ∷ rest) × ChangesText op rest

@@ -53,7 +53,7 @@ ttl_at item = unquoted item >>? λ raw. result_ok (duration_of 2147483647 raw)
 abbrev pub type_at : ItemText → Option RecordType
 type_at item = unquoted item >>? type_named
 
--- ---- what stands behind the words
+-- ---- what stands after the words
 
 -- a name, and no more
 abbrev pub name_alone : List ItemText → Option (List (List ℕ))
@@ -113,7 +113,7 @@ abbrev pub kind_item : Option PrerequisiteKind → Option OperationKind → List
 kind_item None change texts = operation_item change texts
 kind_item (Some kind) change texts = prerequisite_of kind texts >>? λ p. Some (items.Prerequisite p)
 
--- the item that the items of an entry are: a word, and what stands behind it
+-- the item that the items of an entry are: a word, and what stands after it
 abbrev pub update_item : List ItemText → Option UpdateItem
 update_item [] = None
 update_item (word ∷ texts) = unquoted word >>? λ raw. kind_item (prerequisite_named raw) (operation_named raw) texts
@@ -134,7 +134,7 @@ abbrev pub one_item : UpdateItem → UpdateOf
 one_item (items.Prerequisite p) = record { prerequisites = p ∷ []; operations = [] }
 one_item (items.Operation op) = record { prerequisites = []; operations = op ∷ [] }
 
--- two lists behind two others, each behind its own
+-- two lists after two others, each after its own
 abbrev pub behind : UpdateOf → UpdateOf → UpdateOf
 behind front back = record { prerequisites = front.prerequisites ++ back.prerequisites; operations = front.operations ++ back.operations }
 

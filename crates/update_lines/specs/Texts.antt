@@ -32,7 +32,7 @@ record_items r = plain (name_text r.owner) ∷ plain (decimal r.ttl) ∷ plain (
 
 -- ---- items
 
--- what is printed behind the word of a prerequisite
+-- what is printed after the word of a prerequisite
 abbrev pub test_items : Prerequisite → List ItemText
 test_items (RrsetExists name record_type) = set_items name record_type
 test_items (RrsetEquals name rdata) = datum_items name rdata
@@ -40,18 +40,18 @@ test_items (RrsetAbsent name record_type) = set_items name record_type
 test_items (NameUsed name) = plain (name_text name) ∷ []
 test_items (NameUnused name) = plain (name_text name) ∷ []
 
--- what is printed behind the word of an operation
+-- what is printed after the word of an operation
 abbrev pub change_items : Operation → List ItemText
 change_items (Add r) = record_items r
 change_items (DeleteRrset name record_type) = set_items name record_type
 change_items (DeleteName name) = plain (name_text name) ∷ []
 change_items (DeleteRecord name rdata) = datum_items name rdata
 
--- the word of a prerequisite, and what is printed behind it
+-- the word of a prerequisite, and what is printed after it
 abbrev pub prerequisite_items : Prerequisite → List ItemText
 prerequisite_items p = plain (prerequisite_word (prerequisite_kind p)) ∷ test_items p
 
--- the word of an operation, and what is printed behind it
+-- the word of an operation, and what is printed after it
 abbrev pub operation_items : Operation → List ItemText
 operation_items op = plain (operation_word (operation_kind op)) ∷ change_items op
 

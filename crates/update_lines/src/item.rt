@@ -115,7 +115,7 @@ fn read_record(alloc: Global, items: &[Item]) -> Result<Record, ItemFault>
     })
 }
 
-/// A prerequisite of a kind, from the items behind its word.
+/// A prerequisite of a kind, from the items after its word.
 fn read_prerequisite(
     alloc: Global,
     kind: PrerequisiteKind,
@@ -143,7 +143,7 @@ fn read_prerequisite(
     }
 }
 
-/// An operation of a kind, from the items behind its word.
+/// An operation of a kind, from the items after its word.
 fn read_operation(
     alloc: Global,
     kind: OperationKind,

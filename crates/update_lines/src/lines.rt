@@ -36,7 +36,7 @@ impl ItemLists {
         }
     }
 
-    /// Takes an item behind the others.
+    /// Takes an item after the others.
     fn push(&mut self, item: UpdateItem) -> Result<(), AllocError>
         ensures { OnOk result (lists_view self.new ≡ behind (lists_view self.old) (one_item item)) }
     {
@@ -132,7 +132,7 @@ fn reveal_octets(text: &[u8])
 }
 
 /// Reads item lines: each entry of the text that is not blank (RFC 1035 section 5.1) is a prerequisite or an operation of one
-/// update (RFC 2136 sections 2.4 and 2.5), a word and fields behind it:
+/// update (RFC 2136 sections 2.4 and 2.5), a word and fields after it:
 ///
 /// ```text
 /// rrset-exists NAME TYPE

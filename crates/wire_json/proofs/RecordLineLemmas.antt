@@ -12,7 +12,7 @@ records_left zero rs are = are
 records_left (suc n) [] are = are
 records_left (suc n) (r ∷ rs) are = records_left n rs are.1
 
--- the line of the next record, and the lines of those behind it
+-- the line of the next record, and the lines of those after it
 abbrev pub IsNextLine : List Record → ℕ → Bor (List ℕ) × Bor (List ℕ) → Type 0
 IsNextLine rs n cut =
     (r : Record) × (n < length rs) × (r ≡ get_or rs n r) × (cut.0.now ≡ record_line r) × (cut.1.now ≡ records_text (drop (n + 1) rs))
@@ -31,7 +31,7 @@ no_next_line [] n few first = omega arith
 no_next_line (r ∷ rs) zero few first = absurd first
 no_next_line (r ∷ rs) (suc n) few first = let p = no_next_line rs n (omega arith) first in omega (arith, p)
 
--- what is behind a line is shorter by the line and its end
+-- what is after a line is shorter by the line and its end
 pub line_shorter : (rs : List Record) (n : ℕ) (cut : Bor (List ℕ) × Bor (List ℕ)) → IsNextLine rs n cut → length cut.1.now + 1 ≤ length (records_text (drop n rs))
 line_shorter [] n cut is = absurd (let none = is.1 in omega arith)
 line_shorter (r ∷ rs) zero cut is =

@@ -4,7 +4,7 @@ use Rattle.std.specs.Global.{Vec}
 use Rattle.std.specs.Vec.{vec_capacity}
 use Rattle.std.specs.declared.alloc.AllocError.{AllocError}
 
--- A text stands behind what stood there; where memory ran out, what stood there still stands in front. There is no less room.
+-- A text stands after what stood there; where memory ran out, what stood there still stands in front. There is no less room.
 pub record Appends (old new : Vec ℕ) (text : List ℕ) (result : Result (Unit {0}) AllocError) : Type 0 where
   pub ok : OnOk result (new.items ≡ old.items ++ text)
   pub front : OnErr result (take (length old.items) new.items ≡ old.items)

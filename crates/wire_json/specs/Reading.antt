@@ -100,7 +100,7 @@ ttl_of n = if nat_le n 2147483647 then Some n else None
 abbrev pub ttl_in : Data → Result ℕ BodyFault
 ttl_in d = or_bad (option_and_then as_u64 (option_and_then as_number (at field.Ttl d))) >>= λ n. or_bad (ttl_of n)
 
--- the items of a text in which no entry stands behind another
+-- the items of a text in which no entry stands after another
 abbrev pub one_entry : List TokenText → Result (List ItemText) BodyFault
 one_entry ts = if list_all (λ t. t.entry == 0) ts then Ok (map (λ t. t.item) ts) else Err BadField
 

@@ -8,7 +8,7 @@ ghost use Rattle.wire_json.specs.Appending.{Appends, comma_before};
 
 use std::alloc::AllocError;
 
-/// Appends pieces, one behind the other. It fails only where there is no room for them all, and then may have appended some.
+/// Appends pieces, one after the other. It fails only where there is no room for them all, and then may have appended some.
 pub fn push_all(out: &mut Vec<u8>, pieces: &[&[u8]]) -> Result<(), AllocError>
     ensures text { Appends out.old out.new (flat_map (λ piece. piece.now) pieces.now) result }
     ensures full { OnErr result (vec_capacity out.old < length out.old.items + length (flat_map (λ piece. piece.now) pieces.now)) }

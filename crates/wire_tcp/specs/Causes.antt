@@ -60,6 +60,6 @@ abbrev pub trace_by : Option TableFault → ℕ → Option StoreFault → List �
 trace_by None count store = []
 trace_by (Some fault) count store = trace_line count (cause_of fault store)
 
--- what tells of requests that failed so, as far as 64 bits count them, and of what is known of the store behind the last
+-- what tells of requests that failed so, as far as 64 bits count them, and of what is known of the store after the last
 abbrev pub trace_of : List TableFault → Option StoreFault → List ℕ
 trace_of faults store = trace_by (last_or None faults) (min (length faults) (2 ^ 64 - 1)) store

@@ -12,7 +12,7 @@ use itoa::Buffer;
 use office_wire::Servfails;
 use store_faults::StoreFault;
 
-/// Writes texts, one behind the other.
+/// Writes texts, one after the other.
 pub fn write_texts<W: Sink>(writer: &mut W, texts: &[&[u8]]) -> Result<(), DeviceFailed>
     ensures { IsSent (W.contents writer.old) (W.contents writer.new) (flat_map (λ text. text.now) texts.now) result (W.failures writer.old)
         (W.failures writer.new) }

@@ -49,11 +49,11 @@ before_then a b c less le = by_order (canonical_cmp b c) refl le
     by_order Equal e h = subst (λ (x : Name). is_le (canonical_cmp a x) ≡ true) (name_is b c (ap is_eq e)) (rw less refl)
     by_order Greater e h = absurd cc
 
--- what is before is not behind
+-- what is before is not after
 pub not_behind : (a b : Name) → canonical_cmp a b ≡ Less → is_lt (canonical_cmp b a) ≡ false
 not_behind a b less = rw (canonical_total.antisymm b a, less) refl
 
--- what is not at or before is behind
+-- what is not at or before is after
 pub is_behind : (a b : Name) → is_le (canonical_cmp a b) ≡ false → is_lt (canonical_cmp b a) ≡ true
 is_behind a b e = by_order (canonical_cmp a b) e (canonical_total.antisymm b a)
   where

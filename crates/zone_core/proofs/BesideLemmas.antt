@@ -96,7 +96,7 @@ module _ (rs : List Record) (order : InOrder rs) (i : ℕ) (here : Record) (with
       tied_run (place here) rs (drop i rs) i n rises refl (omega arith) also (λ _. start) (λ _. end)
       ∙ filter_agree (λ r. is_eq (place here r)) (λ r. beside (key_of here) (key_of r)) (tied here) rs
 
-  -- it and those behind it up to the first that is not beside it, where the record before it is not
+  -- it and those after it up to the first that is not beside it, where the record before it is not
   pub set_from : (others : List Record) (n : ℕ) → others ≡ drop (i + 1) rs → n ≡ position_or_len (λ r. not (beside (key_of here) (key_of r))) others
       → ((d : Record) → 0 < i → beside (key_of here) (key_of (get_or rs (i - 1) d)) ≡ false) → set_ttl rs here ≡ least_below here.ttl (take n others)
   set_from others n e count before =

@@ -39,7 +39,7 @@ sifted test rs order s =
 pub difference : (rs : List Record) → InOrder rs → (s : Records) → set_of (filter (λ r. not (same_ttl (Some r) (get s (key_of r)))) rs) ≡ minus (set_of rs) s
 difference rs order s = sifted (λ x y. not (same_ttl x y)) rs order s
 
--- records, behind none, that one row has and another has not
+-- records, after none, that one row has and another has not
 pub differing : (rs ss none all : List Record) (a b : Records) → InOrder rs → set_of rs ≡ a → set_of ss ≡ b → none ≡ []
     → all ≡ none ++ filter (λ r. not (same_ttl (Some r) (get (set_of ss) (key_of r)))) rs → AreRows all (minus a b)
 differing rs ss none all a b order is other empty found =

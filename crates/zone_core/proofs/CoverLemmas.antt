@@ -44,7 +44,7 @@ module _ (names : List Name) (apart : AreApart names) where
     ])
 
     module _ (n : ℕ) (short : n ≤ length names) (point : IsPartitionPoint (λ (cut : Name). is_le (canonical_cmp cut name) ≡ true) (λ (cut : Name). is_le (canonical_cmp cut name) ≡ false) names n) where
-      -- a name is within none that is behind it
+      -- a name is within none that is after it
       none_behind : (k : ℕ) (d : Name) → n ≤ k → k < length names → is_within name (get_or names k d) ≡ false
       none_behind k d up below = not_before (get_or names k d) name (is_behind (get_or names k d) name (point.1 k d up below))
 
@@ -68,7 +68,7 @@ module _ (names : List Name) (apart : AreApart names) where
       pub some_over : (cut : Name) → 0 < n → cut ≡ get_or names (n - 1) cut → is_within name cut ≡ true → find (λ cut. is_within name cut) names ≡ Some cut
       some_over cut some is inside = find_some (λ cut. is_within name cut) names (n - 1) cut (omega arith) is inside (λ k d up. none_earlier k (n - 1) d up (omega arith))
 
-  -- where none is behind a name, the last tells
+  -- where none is after a name, the last tells
   pub by_last : (name last : Name) → All (λ (cut : Name). is_le (canonical_cmp cut name) ≡ true) names → 0 < length names → last ≡ get_or names (length names - 1) last
       → is_within name last ≡ list_any (λ cut. is_within name cut) names
   by_last name last before some is = by_test (is_within name last) refl

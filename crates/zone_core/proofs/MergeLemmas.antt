@@ -110,7 +110,7 @@ behind_order r (x ∷ xs) order = by_test (is_lt (record_order x r)) (behind_ord
     by_test true rest = rest
     by_test false rest = order
 
--- what stands behind a record that is not there is above it
+-- what stands after a record that is not there is above it
 higher : (a b : Ordering) → a ≡ ordering_reverse b → is_lt b ≡ false → is_eq a ≡ false → a ≡ Less
 higher a Less e low apart = absurd cc
 higher a Equal e low apart = absurd (let f = rw e at apart in cc)
@@ -148,7 +148,7 @@ joined r (x ∷ xs) ys order others above = by_test (is_lt (record_order x r)) r
     )
     by_test false e more rest = others
 
--- what is found in two rows behind each other
+-- what is found in two rows after each other
 pub found_append : (k : Key) (xs ys : List Record) → find key_cmp k (keyed (xs ++ ys)) ≡ option_or (find key_cmp k (keyed xs)) (find key_cmp k (keyed ys))
 found_append k [] ys = refl
 found_append k (x ∷ xs) ys = either (is_eq (key_cmp k (key_of x))) _ _ _ (found_append k xs ys)
@@ -189,7 +189,7 @@ module _ (goes : Record → Bool) where
   abbrev pub Fresh : List Record → List Record → Type 0
   Fresh rs come = AllByRecursion (λ r. goes r ≡ false → find key_cmp (key_of r) (keyed come) ≡ None) rs
 
-  -- what is found before a record and behind it
+  -- what is found before a record and after it
   found_parts : (k : Key) (r : Record) (xs : List Record) → find key_cmp k (keyed xs) ≡ option_or (find key_cmp k (keyed (before r xs))) (find key_cmp k (keyed (behind r xs)))
   found_parts k r [] = refl
   found_parts k r (x ∷ xs) = by_test (is_lt (record_order x r)) (found_parts k r xs)
@@ -250,7 +250,7 @@ module _ (goes : Record → Bool) where
       ∙ or_assoc (find key_cmp k (keyed (before r come))) (find key_cmp k (keyed (behind r come))) _
       ∙ ap (λ o. option_or o (find key_cmp k (keyed (filter (λ x. not (goes x)) (r ∷ rs))))) (sym (found_parts k r come))
     where
-      -- where the record is found, nothing is found behind it
+      -- where the record is found, nothing is found after it
       here : (t : Bool) (c f : Option Record) → (t ≡ true → c ≡ None) → cond t (Some r) (option_or c f) ≡ option_or c (cond t (Some r) f)
       here true c f none = rw (none refl) refl
       here false c f none = refl

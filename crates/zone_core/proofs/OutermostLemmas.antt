@@ -27,7 +27,7 @@ or_kept false true f = absurd (let e = f refl in cc)
 or_kept false false f = refl
 
 module _ (names : List Name) where
-  -- the outermost of the first names, none of them behind a later name
+  -- the outermost of the first names, none of them after a later name
   pub record AreUnderway (i : ℕ) (tops : List Name) : Type 0 where
     pub each : All (λ top. Contains names top) tops
     pub covers : (name : Name) → list_any (λ top. is_within name top) tops ≡ list_any (λ top. is_within name top) (take i names)
@@ -43,7 +43,7 @@ module _ (names : List Name) where
   }
 
   module _ (order : IsSorted canonical_cmp names) (i : ℕ) (name : Name) (below : i < length names) (is : name ≡ get_or names i name) where
-    -- a name is not behind the later ones
+    -- a name is not after the later ones
     rises : (k : ℕ) (d : Name) → i + 1 ≤ k → k < length names → is_le (canonical_cmp name (get_or names k d)) ≡ true
     rises k d up lt =
         let there : get_or names i d ≡ name = get_or_default names i d name below ∙ sym is in

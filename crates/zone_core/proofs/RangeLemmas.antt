@@ -78,7 +78,7 @@ module _ (rs : List Record) (order : InOrder rs) where
   pub by_head : (name : List (List ℕ)) (t : RecordType) → IsNonDecreasingBy (λ (r : Record). ordering_index (set_order name t r)) rs
   by_head name t = searchable_from_sorted head_total head_of rs (name, rank_of t) heads_rise
 
--- ---- a run between what is before it and what is behind
+-- ---- a run between what is before it and what is after
 
 pub rest_is : {A : Type 0} (xs : List A) (n : ℕ) → take (length xs - n) (drop n xs) ≡ drop n xs
 rest_is xs n = take_all (length xs - n) (drop n xs) (omega (arith, length-drop n xs))

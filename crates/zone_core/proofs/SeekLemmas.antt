@@ -169,7 +169,7 @@ module _ (name : List (List ℕ)) (t : RecordType) (ttl : ℕ) where
     ttl_begun =
         ap (λ xs. xs ++ drop start rs) (map_others (take start rs) (All-take (λ (r : Record). r.owner ≡ name) start rs own) run.before) ∙ take-append-drop start rs
 
-    -- behind it
+    -- after it
     pub ttl_done : map f (take end rs) ++ drop end rs ≡ map f rs
     ttl_done =
         ap (λ xs. map f (take end rs) ++ xs) (sym (map_others (drop end rs) (λ k d below. subst (λ (r : Record). r.owner ≡ name) (sym (get_or-drop end rs k d)) (own (end + k) d (omega (arith, length-drop end rs)))) run.behind))

@@ -9,7 +9,7 @@ use Rattle.std.proofs.lemmas.List.Elements.{recursion_from_All, All-from_recursi
 use Rattle.std.proofs.lemmas.List.Sums.{sum_by-cons}
 use Rattle.std.proofs.lemmas.List.Sorted.{sorted_far, sum_by-IsPermutation, All-permutation}
 
--- ---- numbers of which each is at most those behind it
+-- ---- numbers of which each is at most those after it
 
 abbrev pub IsRising : List ℕ → Type 0
 IsRising [] = Unit {0}
@@ -73,7 +73,7 @@ passes t m (x ∷ xs) = by_test (t x) (passes t m xs) ∙ sym (sum_by-cons (λ y
     by_test true e = ap (λ n. cond (eqb x m) 1 0 + n) e
     by_test false e = omega (arith, e)
 
--- each is related to all behind it
+-- each is related to all after it
 abbrev pub AreRelated : (ℕ → ℕ → Type 0) → List ℕ → Type 0
 AreRelated R [] = Unit {0}
 AreRelated R (x ∷ xs) = AllByRecursion (R x) xs × AreRelated R xs

@@ -40,7 +40,7 @@ le_back a Less e h = rw e refl
 le_back a Equal e h = rw e refl
 le_back a Greater e h = absurd cc
 
--- what is not behind something before z is before z
+-- what is not after something before z is before z
 le_then_lt : (x y z : List ℕ) → is_le (slice_cmp nat_cmp x y) ≡ true → is_lt (slice_cmp nat_cmp y z) ≡ true → is_lt (slice_cmp nat_cmp x z) ≡ true
 le_then_lt x y z le lt =
     by_order (slice_cmp nat_cmp x y) le

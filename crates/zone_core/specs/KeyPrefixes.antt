@@ -1,4 +1,4 @@
--- Prefixes of the keys of names, behind the octets that all keys share.
+-- Prefixes of the keys of names, after the octets that all keys share.
 use Rattle.std.specs.Prelude.{◌≡◌, ℕ, zero, suc, List, [], ◌∷◌, ◌++◌, length, drop}
 use Rattle.std.specs.Int.{from_be_bytes, w64}
 use Rattle.std.specs.List.{AllByRecursion}
@@ -18,7 +18,7 @@ front (suc n) (o ∷ octets) = o ∷ front n octets
 unfoldable pub written : List ℕ → ℕ
 written octets = from_be_bytes w64 (front 8 octets)
 
--- the first eight octets of a name's key behind the shared ones, and the eight behind them
+-- the first eight octets of a name's key after the shared ones, and the eight after them
 abbrev pub prefix_behind : ℕ → List (List ℕ) → KeyPrefix
 prefix_behind shared name = record { high = written (drop shared (key_of name)); low = written (drop 8 (drop shared (key_of name))) }
 

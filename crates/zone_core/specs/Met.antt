@@ -40,7 +40,7 @@ abbrev pub IsOfWholeSet : Prerequisite → Type 0
 IsOfWholeSet (RrsetEquals name rdata) = Unit {0}
 IsOfWholeSet p = ⊥
 
--- One prerequisite is tested before another, by their numbers: tests of sets that are given whole come behind all others, and
+-- One prerequisite is tested before another, by their numbers: tests of sets that are given whole come after all others, and
 -- tests of one kind in their order (RFC 2136 section 3.2.5).
 abbrev pub IsTestedBefore : Prerequisite → ℕ → Prerequisite → ℕ → Type 0
 IsTestedBefore p i q j = (¬ IsOfWholeSet p × IsOfWholeSet q) ⊎ ((IsOfWholeSet p ↔ IsOfWholeSet q) × (i < j))

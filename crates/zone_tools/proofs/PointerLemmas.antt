@@ -192,7 +192,7 @@ all_at P [] x all a = absurd a
 all_at P (y ∷ ys) x all (inl e) = subst P (sym e) all.0
 all_at P (y ∷ ys) x all (inr later) = all_at P ys x all.1 later
 
--- each is before none that stands behind it
+-- each is before none that stands after it
 abbrev pub Rising : List Record → Type 0
 Rising [] = Unit {0}
 Rising (p ∷ ps) = AllByRecursion (λ q. is_before q p ≡ false) ps × Rising ps

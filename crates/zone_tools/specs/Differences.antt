@@ -104,7 +104,7 @@ needs_soa bare old new = not (is_equal (next_soa old new) (next_version old)) ||
 abbrev pub soa_additions : Bool → Record → Record → List Operation
 soa_additions bare old new = if needs_soa bare old new then Add (next_soa old new) ∷ [] else []
 
--- operations, and behind them the addition of the SOA, where it is needed
+-- operations, and after them the addition of the SOA, where it is needed
 abbrev pub with_soa_addition : List Operation → Option Record → Option Record → List Operation
 with_soa_addition ops None new = ops
 with_soa_addition ops (Some old) None = ops

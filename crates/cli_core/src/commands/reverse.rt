@@ -13,7 +13,7 @@ use clap::ArgMatches;
 pub struct Reverse<'a> {
     /// The name of the reverse zone's origin.
     pub origin: &'a str,
-    /// The path of the master files of forward zones, one behind the other, or `-`.
+    /// The path of the master files of forward zones, one after the other, or `-`.
     pub file: &'a str,
 }
 

@@ -29,7 +29,7 @@ impl Trial for Asks<'_> {
 /// A device whose first call fails.
 const FAILING: Manner = Manner { most: 64, fails: 1 };
 
-/// Appends the answers to the questions of a body, about the zone behind a line `==`; or the same where the first read of each fails.
+/// Appends the answers to the questions of a body, about the zone after a line `==`; or the same where the first read of each fails.
 pub fn push_answers(alloc: Global, row: &Row<'_>, answer: &mut Vec<u8>) -> Result<(), AllocError> {
     let sound = Manner::SOUND;
     if row.verb == "answers" {

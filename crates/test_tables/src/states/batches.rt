@@ -21,7 +21,7 @@ use zone_core::{Change, Operation, Update, Zone};
 /// The origin of every zone that is written.
 const ORIGIN: &[u8] = b"example.org.";
 
-/// The update of the items behind a word.
+/// The update of the items after a word.
 fn update_of(alloc: Global, body: &[u8], word: &str) -> Result<Update> {
     let items = items_behind(alloc, str::from_utf8(body)?, word)?;
     Ok(read_items(alloc, items.as_bytes())?)
@@ -39,7 +39,7 @@ fn items_behind(alloc: Global, lines: &str, word: &str) -> Result<String, AllocE
     Ok(items)
 }
 
-/// The records that the items behind a word add.
+/// The records that the items after a word add.
 fn records_of(alloc: Global, body: &[u8], word: &str) -> Result<Vec<Record>> {
     added(alloc, update_of(alloc, body, word)?.operations())
 }
@@ -62,7 +62,7 @@ fn zone_of(alloc: Global, body: &[u8], word: &str) -> Result<Zone> {
     Ok(Zone::build(alloc, origin, records)?)
 }
 
-/// The change of the records behind `gone` and `come`, if there is one.
+/// The change of the records after `gone` and `come`, if there is one.
 fn change_of(alloc: Global, body: &[u8]) -> Result<Option<Change>> {
     let change = changed(alloc, body)?;
     Ok(if change.is_empty() {

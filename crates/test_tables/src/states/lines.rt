@@ -5,7 +5,7 @@ use anyhow::{Result, bail};
 use std::alloc::{AllocError, Global};
 use store_sql::{AllRows, Batch, ChangeRow, ReceiptRow, RecordRow, ZoneRow};
 
-/// The first word of a text, and what stands behind it.
+/// The first word of a text, and what stands after it.
 pub fn word(text: &str) -> (&str, &str) {
     text.split_once(' ').unwrap_or((text, ""))
 }

@@ -200,7 +200,7 @@ fn delegation(alloc: Global, line: &str) -> Result<Delegation, BodyFault> {
     Ok(Delegation { child, servers })
 }
 
-/// The servers of a delegation, each behind the word for its glue.
+/// The servers of a delegation, each after the word for its glue.
 fn servers(alloc: Global, text: &str) -> Result<Vec<DelegatedServer>, BodyFault> {
     let mut servers = Vec::new(alloc);
     for server in text.split('|') {

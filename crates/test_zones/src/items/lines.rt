@@ -20,7 +20,7 @@ fn lines_of(alloc: Global, text: &[u8]) -> Result<String, Refusal> {
     Ok(items_text(alloc, &read_items(alloc, text)?)?)
 }
 
-/// Appends how many items a line makes so many times, and behind them a text, and how many octets their canonical lines have.
+/// Appends how many items a line makes so many times, and after them a text, and how many octets their canonical lines have.
 pub fn push_many(
     alloc: Global,
     count: &[u8],

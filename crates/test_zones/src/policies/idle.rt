@@ -5,7 +5,7 @@ use grant_policy::Policy;
 use policy_tools::{IdleRule, idle_rules};
 use std::alloc::{AllocError, Global};
 
-/// The idle rules of a policy, each with those that take its questions behind a colon, by their ids.
+/// The idle rules of a policy, each with those that take its questions after a colon, by their ids.
 pub fn idle(alloc: Global, policy: &Policy) -> Result<String, Refusal> {
     Ok(text_of(alloc, policy, &idle_rules(alloc, policy)?)?)
 }

@@ -44,7 +44,7 @@ fn push_record(alloc: Global, record: &Record, answer: &mut Vec<u8>) -> Result<(
     push(record_line(alloc, record)?.as_str(), answer)
 }
 
-/// Appends lines of records behind a mark, an SOA as its serial, each with a line end.
+/// Appends lines of records after a mark, an SOA as its serial, each with a line end.
 pub fn push_marked(
     alloc: Global,
     mark: &str,

@@ -53,7 +53,7 @@ fn rdata(alloc: Global, line: &[u8]) -> Result<Data, Refusal> {
     Ok(record(alloc, line)?.rdata)
 }
 
-/// A prerequisite, from what stands behind its first word.
+/// A prerequisite, from what stands after its first word.
 fn prerequisite(
     alloc: Global,
     kind: PrerequisiteKind,
@@ -99,7 +99,7 @@ fn rrset(alloc: Global, text: &[u8]) -> Result<(Name, RecordType), Refusal> {
     Ok((name, record_type(rest)?))
 }
 
-/// An operation, from what stands behind its first word.
+/// An operation, from what stands after its first word.
 fn operation(alloc: Global, kind: OperationKind, text: &[u8]) -> Result<Operation, Refusal> {
     match kind {
         OperationKind::Add => addition(alloc, text),

@@ -3,7 +3,7 @@ use Rattle.std.proofs.lemmas.List.{drop-drop, drop_all, length-take-le}
 use Rattle.std.proofs.Math.Seq.{take-append_seam}
 use Rattle.dns_master.proofs.device.PiecesRead.read.Goals as goal
 
--- what was copied to the front of a buffer, and what is left behind it
+-- what was copied to the front of a buffer, and what is left after it
 copied : (xs front back : List ℕ) (r n : ℕ) → front ≡ take n (drop r xs) → length front ≡ n → drop r xs ≡ take n (front ++ back) ++ drop (r + n) xs
 copied xs front back r n is size =
     let whole : take n (front ++ back) ≡ front = ap (λ (k : ℕ). take k (front ++ back)) (sym size) ∙ take-append_seam front back in
