@@ -75,7 +75,8 @@ abbrev pub command_helped : List Text → Option Command
 command_helped words =
     option_and_then (λ word. if bytes_eq word (codes "help") then option_and_then command_of (slice_get words 1) else command_of word) (slice_get words 0)
 
--- The help of a command says first what it does, and last how it is used. Between the two are its usage and its options, as clap lays them out.
+-- The help of a command says first what it does, and last how it is used. Between the two are its usage and its options, as clap lays them
+-- out.
 abbrev pub IsHelpOf : Option Command → Text → Type 0
 IsHelpOf None text = text ≡ program_help
 IsHelpOf (Some c) text = (usage : Text) × (text ≡ command_about c ++ (10 ∷ 10 ∷ (usage ++ (10 ∷ (command_example c ++ 10 ∷ [])))))

@@ -44,7 +44,8 @@ is_input (text (Some path)) = bytes_eq path (codes "-")
 is_input _ = false
 
 -- whether values go together: one of two files at most is standard input, and prerequisites are of one scope; an update has an identifier,
--- or what stands before those of its parts, and only one of them; standard input is not both a zone and the questions to it, which have their types; and a zone is not checked both by one rule only and by all but one
+-- or what stands before those of its parts, and only one of them; standard input is not both a zone and the questions to it, which have
+-- their types; and a zone is not checked both by one rule only and by all but one
 abbrev pub go_together : Command → List Given → Bool
 go_together command.Diff gs =
     not (is_input (value_of argument.Old gs) && is_input (value_of argument.New gs))

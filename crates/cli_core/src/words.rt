@@ -126,8 +126,8 @@ fn reported(alloc: Global, words: &[&str], error: Error) -> WordsFault
 /// `serve --store PATH --policy PATH --listen ADDRESS:PORT [--connections N] [--patience SECONDS] [--longest SECONDS]`;
 /// `check policy --policy PATH [--against PATH]`; `check expect [FILE] --policy PATH`; `check isolation --policy PATH --caller CALLER`;
 /// `check rights [NAME] --policy PATH`; `check zone --origin NAME [--only RULE | --not RULE]`;
-/// `answer --origin NAME FILE NAME [TYPE]`, where only one of file and name can be `-`, and a type is of a name; `reverse --origin NAME FILE`; and
-/// `explain [NUMBER] [--json]`. The words after a command may come in any order.
+/// `answer --origin NAME FILE NAME [TYPE]`, where only one of file and name can be `-`, and a type is of a name;
+/// `reverse --origin NAME FILE`; and `explain [NUMBER] [--json]`. The words after a command may come in any order.
 /// `Help` comes where they ask for help or the version, and `Misused` where there is a mistake in them.
 pub fn read_words<'a>(alloc: Global, words: &'a [&'a str]) -> Result<Job<'a>, WordsFault>
     // The job is the one that the words ask for.

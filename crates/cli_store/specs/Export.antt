@@ -25,8 +25,8 @@ abbrev pub export_text : ZoneForm → List ℕ → Result (List Record) Refusal 
 export_text form word held = of_names (absolute_name word) >>= λ origin. held >>= λ records. Ok (zone_text_in form origin records)
 
 -- What connections show, what the files say of the path, the connection that is handed back, and the origin with the records that were had:
--- the origin's word is one, and these are the records that the store of the path holds of it; or the word was refused, with no store touched; or
--- the store refused them.
+-- the origin's word is one, and these are the records that the store of the path holds of it; or the word was refused, with no store
+-- touched; or the store refused them.
 abbrev pub IsExported : {C X : Type 0} → (C → Shown) → (X → List Record) → List ℕ → (Bool → Type 0) → (StoreFault → Type 0) → (C → Type 0) → Option C → Result (List (List ℕ) × X) LineFault → Type 0
 IsExported shows view word finds refuses connects conn (Ok found) =
     (of_names (absolute_name word) ≡ Ok found.0) × IsHeld shows finds refuses connects view found.0 conn (Ok found.1)

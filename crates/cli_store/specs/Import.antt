@@ -30,15 +30,15 @@ PutsZone zone (Err refusal) = IsOfStore refusal
 abbrev pub PutsZones : (ZoneOf → Result (List ℕ) Refusal) → Type 0
 PutsZones put = (zone : ZoneOf) → PutsZone zone (put zone)
 
--- what is written of an input that is a master file: a refusal of the origin, of the file or of its records as a zone, and else what the store
--- makes of the zone
+-- what is written of an input that is a master file: a refusal of the origin, of the file or of its records as a zone, and else what the
+-- store makes of the zone
 abbrev pub import_text : List ℕ → (ZoneOf → Result (List ℕ) Refusal) → List ℕ → Result (List ℕ) Refusal
 import_text origin put input = zone_read origin input >>= put
 
 -- ---- the store
 
--- What connections show, what the files say of the path, the zone, the connection that is handed back, and the answer: the zone was put into
--- the store of the path, and this is its line; or memory ran out for the line, with no store touched; or the store refused the zone.
+-- What connections show, what the files say of the path, the zone, the connection that is handed back, and the answer: the zone was put
+-- into the store of the path, and this is its line; or memory ran out for the line, with no store touched; or the store refused the zone.
 abbrev pub IsPutWithLine : {C : Type 0} → (C → Shown) → (Bool → Type 0) → (StoreFault → Type 0) → (C → Type 0) → Existing → ZoneOf → Option C → Result (List ℕ) LineFault → Type 0
 IsPutWithLine shows finds refuses connects existing zone conn (Ok line) =
     IsStored shows finds refuses connects existing zone conn (Ok tt) × (line ≡ imported_line zone)

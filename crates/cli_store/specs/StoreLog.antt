@@ -67,8 +67,8 @@ IsTextOf asked (Err refusal) made = made ≡ Err (of_store refusal)
 
 -- ---- the job
 
--- What connections show, the words, what the files say of the path, the connection that is handed back, and the text that was made: of what the
--- store of the path has; or a word was refused, with no store touched; or memory ran out for the text; or the store refused it.
+-- What connections show, the words, what the files say of the path, the connection that is handed back, and the text that was made: of what
+-- the store of the path has; or a word was refused, with no store touched; or memory ran out for the text; or the store refused it.
 abbrev pub IsLogged : {C : Type 0} → (C → Shown) → List ℕ → LogChoice → (Bool → Type 0) → (StoreFault → Type 0) → (C → Type 0) → Option C → Result (List ℕ) LineFault → Type 0
 IsLogged shows word choice finds refuses connects conn (Ok text) =
     (asked : LogAsked) × (log_asked word choice ≡ Ok asked)

@@ -35,8 +35,8 @@ text_of_zone form zone = zone_text_in form zone.origin (listing zone.records)
 abbrev pub canon_text : ZoneForm → List ℕ → List ℕ → Result (List ℕ) Refusal
 canon_text form word input = zone_read word input >>= λ zone. Ok (text_of_zone form zone)
 
--- The records of a zone, in record order, whose text in a form is not too long for a master file: that text, read relative to the origin, is
--- the file of this zone.
+-- The records of a zone, in record order, whose text in a form is not too long for a master file: that text, read relative to the origin,
+-- is the file of this zone.
 abbrev pub ZonesAreReadAgain : Type 0
 ZonesAreReadAgain =
     (form : ZoneForm) (origin : List (List ℕ)) (records : List Record) → AreOfZone origin records → IsName origin → AllByRecursion IsRecord records

@@ -1,5 +1,5 @@
-//! The commands that need no store, `canon`, `apply`, `diff`, `request`, `rights`, `plan`, `check`, `answer`, `reverse` and `explain`: each writes its answer to
-//! an input, or one line that says why it has no answer.
+//! The commands that need no store, `canon`, `apply`, `diff`, `request`, `rights`, `plan`, `check`, `answer`, `reverse` and `explain`: each
+//! writes its answer to an input, or one line that says why it has no answer.
 #![tactic(auto)]
 
 mod answer;

@@ -19,7 +19,8 @@ use Rattle.zone_core.specs.declared.update.ItemList.TheVariants as lists
 use Rattle.zone_core.specs.declared.update.Place.{Place}
 use Rattle.zone_core.specs.Updates.{UpdateOf, tested_name, acted_name, place_in}
 
--- the records of a type at a name make a delegation: NS at another name than the origin, and DS (RFC 1034 section 4.2.1, RFC 4034 section 5)
+-- the records of a type at a name make a delegation: NS at another name than the origin, and DS (RFC 1034 section 4.2.1, RFC 4034 section
+-- 5)
 abbrev pub Delegates : List (List ℕ) → List (List ℕ) → RecordType → Type 0
 Delegates origin name record_type = ((record_type ≡ types.Ns) × (name ≢ origin)) ⊎ (record_type ≡ types.Ds)
 

@@ -39,7 +39,8 @@ abbrev pub moved : {E : Type 0} → (List ℕ → Event) → Result ℕ E → Li
 moved event (Ok n) octets = event (take n octets) ∷ []
 moved event (Err failed) octets = []
 
--- A call with this result came, after so many that moved nothing: they were cut short and begun again, or one of them is the call that failed.
+-- A call with this result came, after so many that moved nothing: they were cut short and begun again, or one of them is the call that
+-- failed.
 abbrev pub FollowsOnce : {E : Type 0} → (List ℕ → Event) → Option (List Event) → Option (List Event) → Result ℕ E → List ℕ → Type 0
 FollowsOnce event before now result octets = (idle : ℕ) × Follows before now (replicate idle (event []) ++ moved event result octets)
 

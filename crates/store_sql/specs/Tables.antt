@@ -66,7 +66,8 @@ meta_columns = strict (codes "version") Integer ∷ []
 abbrev pub zones_columns : List Column
 zones_columns = strict (codes "origin") Text ∷ []
 
--- CREATE TABLE records(origin TEXT, owner TEXT, type INTEGER, data TEXT, ttl INTEGER, owner_key BLOB, PRIMARY KEY(origin, owner, type, data)), each NOT NULL
+-- CREATE TABLE records(origin TEXT, owner TEXT, type INTEGER, data TEXT, ttl INTEGER, owner_key BLOB, PRIMARY KEY(origin, owner, type,
+-- data)), each NOT NULL
 abbrev pub records_columns : List Column
 records_columns =
     strict (codes "origin") Text ∷ strict (codes "owner") Text ∷ strict (codes "type") Integer ∷ strict (codes "data") Text ∷ strict (codes "ttl") Integer ∷ strict (codes "owner_key") Blob ∷ []
@@ -75,7 +76,8 @@ records_columns =
 abbrev pub receipts_columns : List Column
 receipts_columns = strict (codes "caller") Text ∷ strict (codes "id") Text ∷ strict (codes "origin") Text ∷ strict (codes "request") Text ∷ strict (codes "reply") Text ∷ []
 
--- CREATE TABLE changes(origin TEXT, number INTEGER, side INTEGER, owner TEXT, type INTEGER, data TEXT, ttl INTEGER, PRIMARY KEY(origin, number, side, owner, type, data)), each NOT NULL
+-- CREATE TABLE changes(origin TEXT, number INTEGER, side INTEGER, owner TEXT, type INTEGER, data TEXT, ttl INTEGER, PRIMARY KEY(origin,
+-- number, side, owner, type, data)), each NOT NULL
 abbrev pub changes_columns : List Column
 changes_columns =
     strict (codes "origin") Text ∷ strict (codes "number") Integer ∷ strict (codes "side") Integer ∷ strict (codes "owner") Text ∷ strict (codes "type") Integer ∷ strict (codes "data") Text ∷ strict (codes "ttl") Integer ∷ []

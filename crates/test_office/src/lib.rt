@@ -12,12 +12,12 @@
 //! `Stores`: `policy` takes its text from the body. `database` makes a database by the script of the body, and what is said above is
 //! done to it. `again` makes it anew, runs the script below too, and looks for the table, or migrates it for `again migrate`.
 //!
-//! `Stops`: what is done to a store is found whole or not at all after each stop, and can be done then. `policy` takes its text from
-//! the body, and `look` the lines by which a store is looked at. `disks` begins with empty disks, and the same things are done to the
-//! store on them. `stop` prints what the look tells before and after what the row says, and what is told of that
-//! and of the same once more. Then it does it again and again, and closes the store, over disks of which one stops at one call after the
-//! other, until it is done and closed without a stop, and tells whether each stop left the store as it was or as it is to be, and never as it was where it was told to be done;
-//! and whether the same, done after the stop, is told and found as it is to be.
+//! `Stops`: what is done to a store is found whole or not at all after each stop, and can be done then. `policy` takes its text from the
+//! body, and `look` the lines by which a store is looked at. `disks` begins with empty disks, and the same things are done to the store on
+//! them. `stop` prints what the look tells before and after what the row says, and what is told of that and of the same once more. Then it
+//! does it again and again, and closes the store, over disks of which one stops at one call after the other, until it is done and closed
+//! without a stop, and tells whether each stop left the store as it was or as it is to be, and never as it was where it was told to be
+//! done; and whether the same, done after the stop, is told and found as it is to be.
 //!
 //! `Office`: what the office answers, over HTTP and in words, over a table in memory and over SQLite in files of memory, which answer the
 //! same.

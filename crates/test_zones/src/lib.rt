@@ -1,5 +1,5 @@
-//! Rows of policies, zones, items of updates, JSON bodies, and calls of the office in words: worked examples, whose wanted values come from the standards, from the
-//! formats, or from hand.
+//! Rows of policies, zones, items of updates, JSON bodies, and calls of the office in words: worked examples, whose wanted values come from
+//! the standards, from the formats, or from hand.
 //!
 //! `policies`: `policy` reads the document of its body and keeps it, and `many N` that of its body N times, where `#` stands for the
 //! number of each time, from 0. `build` keeps the policy of the rules of its body, a line `ID EFFECT CALLER SCOPE AT TYPES ACTIONS`
