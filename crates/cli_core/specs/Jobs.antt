@@ -129,7 +129,8 @@ asks_store (store_job.Migrate w) = (command.Migrate, (argument.Store, given w.st
 asks_store (store_job.Serve w) = (
   command.Serve,
   (argument.Store, given w.store.now) ∷ (argument.Policy, given w.policy.now) ∷ (argument.Listen, given w.listen.now)
-      ∷ (argument.Connections, number w.connections) ∷ (argument.Patience, number w.patience) ∷ (argument.Longest, number w.longest) ∷ [],
+      ∷ (argument.Connections, number w.connections) ∷ (argument.Patience, number w.patience) ∷ (argument.Longest, number w.longest)
+      ∷ (argument.Memory, number w.memory) ∷ [],
 )
 
 abbrev pub asks : Job → JobOf

@@ -23,6 +23,7 @@ pub enum Argument {
     Connections,
     Patience,
     Longest,
+    Memory,
     Number,
     Subject,
     CheckedPolicy,
@@ -147,6 +148,11 @@ impl Argument {
                 name: "longest",
                 form: Form::Number,
                 help: "Seconds until a connection ends between requests, 60 if left out",
+            },
+            Argument::Memory => &Row {
+                name: "memory",
+                form: Form::Number,
+                help: "MB of memory for zones that were asked for before, 256 if left out",
             },
             Argument::Number => &Row {
                 name: "number",

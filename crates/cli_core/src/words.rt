@@ -123,7 +123,7 @@ fn reported(alloc: Global, words: &[&str], error: Error) -> WordsFault
 /// `import --store PATH --origin NAME [--replace]`; `export --store PATH --origin NAME [--relative]`; `zones --store PATH`;
 /// `log --store PATH --origin NAME [--from N] [--name NAME] [--caller CALLER]`; `migrate --store PATH`;
 /// `rights --policy PATH --caller CALLER NAME TYPE ACTION`; `plan --policy PATH --caller CALLER`;
-/// `serve --store PATH --policy PATH --listen ADDRESS:PORT [--connections N] [--patience SECONDS] [--longest SECONDS]`;
+/// `serve --store PATH --policy PATH --listen ADDRESS:PORT [--connections N] [--patience SECONDS] [--longest SECONDS] [--memory MB]`;
 /// `check policy --policy PATH [--against PATH]`; `check expect [FILE] --policy PATH`; `check isolation --policy PATH --caller CALLER`;
 /// `check rights [NAME] --policy PATH`; `check zone --origin NAME [--only RULE | --not RULE]`;
 /// `answer --origin NAME FILE NAME [TYPE]`, where only one of file and name can be `-`, and a type is of a name;

@@ -103,6 +103,15 @@ pub fn listening_at<M: Surroundings>(
     Ok((listener, text))
 }
 
+/// How many MB of memory a service takes for zones that were asked for before, if its words do not say.
+const MEMORY: u64 = 256;
+
+/// How many octets a number of MB is, or a larger number of them than there are.
+fn memory_of(megabytes: Option<u64>) -> usize {
+    let octets = megabytes.unwrap_or(MEMORY).saturating_mul(1 << 20);
+    usize::try_from(octets).unwrap_or(usize::MAX)
+}
+
 /// How connections are served by a policy, as the words say.
 fn connections_of<'a, M: Surroundings, D>(
     around: &'a M,
@@ -236,6 +245,7 @@ fn serve_opened<M: Surroundings, S: Alter + Drop, L: Ledger, W: Sink, E: Sink>(
         (record { old = E.contents trace.old; new = E.contents trace.new; before = E.failures trace.old; after = E.failures trace.new }) }
 {
     let mut table = table;
+    table.limit_memory(memory_of(service.memory));
     let connections = connections_of(around, &service, policy, &Remembered);
     let done = serve_table(
         around,

@@ -31,7 +31,7 @@ use Rattle.office_store.specs.Cache.{FitsCache}
 use Rattle.office_store.specs.Holds.{HoldsState, LeavesStates}
 use Rattle.office_store.specs.Queries.{Asked}
 use Rattle.office_store.specs.Turns.{Turns}
-use Rattle.office_store.proofs.CacheLemmas.{fits_none, fits_asked, fits_turned, one_zone}
+use Rattle.office_store.proofs.CacheLemmas.{fits_turned, one_zone}
 
 abbrev Labels : Type 0
 Labels = List (List ℕ)
@@ -64,9 +64,6 @@ history_turned old new r after cached turns fits = history_none new None (fits_t
 pub history_committed : {X E : Type 0} (old new : Shown) (r : Result X E) (a : AdditionOf) (history : Option ZoneHistory) → Turns old new r (committed a) → FitsHistory old history → FitsHistory new history
 history_committed old new (Ok x) a history turns fits = record { held = λ clean. ∥∥₁_map (fits.held (turns.honest clean)) (λ it. (committed a it.0, turns.made clean it.0 it.1, remembers_committed a it.0 history it.2)) }
 history_committed old new (Err e) a history turns fits = record { held = λ clean. ∥∥₁_map (fits.held (turns.honest clean)) (λ it. (it.0, turns.failed it.0 it.1, it.2)) }
-
--- what a call leaves of what is kept beside the connection
-pub ruleset kept = (fits_none, fits_asked, fits_turned, history_asked, history_turned, history_committed)
 
 -- ---- what is told of it
 

@@ -6,6 +6,7 @@ pub mod VersionLemmas
 pub mod ZoneLemmas
 pub mod CacheLemmas
 pub mod HistoryLemmas
+pub mod ShelfLemmas
 pub mod AdditionLemmas
 pub mod GoneRowLemmas
 pub mod MigratedZoneLemmas

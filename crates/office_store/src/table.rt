@@ -1,7 +1,8 @@
 //! The table in SQLite.
-#![tactic(auto, using(crate::proofs::HistoryLemmas::kept))]
+#![tactic(auto, using(crate::proofs::ShelfLemmas::kept))]
 
 ghost use Rattle.std.specs.Prelude.{pos, ◌≡◌, ◌≢◌, ◌↔◌, ◌⊎◌, ◌<◌, false, None, IfOk, IfErr, IsErrAnd, IsTrue, OnErr, map, option_map};
+ghost use Rattle.std.proofs.Props.{props};
 ghost use Rattle.sqlite.specs.Held.{state};
 ghost use Rattle.sqlite.specs.State.{HasCleanDisk};
 ghost use Rattle.zone_core.specs.Changes.{change_in};
@@ -16,8 +17,9 @@ ghost use Rattle.store_faults.specs.declared.store_fault.StoreFault.TheVariants.
 ghost use Rattle.store_faults.specs.StoreFaults.{CountsFailure, CountsCall, Gives, IsFailure, IsOfRows};
 ghost use Rattle.office_store.specs.Holds.{HoldsState, HasNone, HasVersion, IsOfVersion, IsStateIn, LeavesStates};
 ghost use Rattle.store_cache.specs.Cache.{cached_in};
-ghost use Rattle.office_store.specs.Cache.{FitsCache};
-ghost use Rattle.office_store.specs.History.{FitsHistory};
+ghost use Rattle.store_cache.specs.Shelf.{on_any};
+ghost use Rattle.office_store.specs.Cache.{FitEach, FitsCache};
+ghost use Rattle.office_store.specs.History.{FitsHistory, RememberEach};
 ghost use Rattle.office_store.specs.Migration.{HoldsOld, IsMigratedFrom, IsMigrated};
 ghost use Rattle.office_store.specs.Queries.{Asked, AsksOnly, Only};
 ghost use Rattle.office_store.specs.Turns.{Turns};
@@ -38,28 +40,40 @@ use office_model::{Addition, Ahead, Receipt, TableFault, ZoneTable};
 use sqlite::{Alter, Connection};
 use std::alloc::Global;
 use std::sync::ledger::{Blank, Book, Ledger, Share};
-use store_cache::{CachedZone, ZoneHistory, ahead_in, cached_of, remember};
+use store_cache::{
+    CachedZone, Shelf, ZoneHistory, ahead_in, cached_of, forget_on, remember, turn_on, turn_to,
+};
 use store_faults::StoreFault;
 use store_rows::KeptReceipt;
 use zone_core::{Change, Zone};
 
 /// Zones with their changes, and receipts, in the tables of a database. It counts the failures of its store by a ledger, and caches
-/// the zone that was read last, at first the largest, which follows the commits, until a call fails or a whole zone is written. It
-/// remembers what the changes touch of the zone whose first changes were read last, at first of the one that has most, until a whole zone
-/// is written, and why its last call of the machine failed that did.
+/// zones that were read as a whole, at first the largest, which follow the commits; the one of the last call until a call fails, and all
+/// until a whole zone is written. It remembers what the changes touch of zones whose first changes were read, at first of the one that
+/// has most, until a whole zone is written, and why its last call of the machine failed that did. What is cached and remembered of other
+/// zones than that of the last call takes a bounded amount of memory: the zones of the calls longest ago go.
 #[derive(Drop)]
 pub struct SqlTable<S: Alter + Drop, L: Ledger> {
     conn: Connection<S>,
     book: Book<L>,
     share: Share<L>,
     cache: Option<CachedZone>,
+    zones: Option<Shelf<CachedZone>>,
     subtree_read: SubtreeRead,
     history: Option<ZoneHistory>,
+    histories: Option<Shelf<ZoneHistory>>,
+    /// How many octets of memory may be taken for other zones than that of the last call.
+    memory: usize,
     fault: Option<StoreFault>,
     ghost counts: { 0 < share.parts },
     ghost fits: { FitsCache (state S.Store conn) (cached_in cache) },
+    ghost fit: { FitEach (state S.Store conn) (on_any zones) } by { Prim.hlevel props },
     ghost remembers: { FitsHistory (state S.Store conn) history },
+    ghost remember: { RememberEach (state S.Store conn) (on_any histories) } by { Prim.hlevel props },
 }
+
+/// How many octets of memory may be taken for other zones than that of the last call, if nothing else is said.
+const MEMORY: usize = 256 << 20;
 
 impl<S: Alter + Drop, L: Ledger> SqlTable<S, L> {
     /// The table over a connection that holds a state, of which a zone may be cached, and the changes of one remembered.
@@ -83,8 +97,11 @@ impl<S: Alter + Drop, L: Ledger> SqlTable<S, L> {
             book,
             share,
             cache,
+            zones: None,
             subtree_read: SubtreeRead::Rows,
             history,
+            histories: None,
+            memory: MEMORY,
             fault: None,
         }
     }
@@ -116,6 +133,25 @@ impl<S: Alter + Drop, L: Ledger> SqlTable<S, L> {
                 TableFault::Store
             }
         }
+    }
+
+    /// Turns to the zone of an origin: what is cached of it is at hand then, if it is.
+    fn turn_cache(&mut self, alloc: Global, origin: &Name)
+        ensures conn { self.new.conn ≡ self.old.conn }
+        ensures counts { self.new.book.total ≡ self.old.book.total }
+    {
+        // three quarters are for records
+        let room = self.memory / 4 * 3;
+        turn_to(alloc, &mut self.cache, &mut self.zones, room, origin);
+    }
+
+    /// The same of what is remembered of its changes.
+    fn turn_history(&mut self, alloc: Global, origin: &Name)
+        ensures conn { self.new.conn ≡ self.old.conn }
+        ensures counts { self.new.book.total ≡ self.old.book.total }
+    {
+        let room = self.memory / 4;
+        turn_to(alloc, &mut self.history, &mut self.histories, room, origin);
     }
 
     /// Makes the tables, without zones and receipts, in a database that has none, in one transaction. No transaction is open. The
@@ -239,6 +275,18 @@ impl<S: Alter + Drop, L: Ledger> SqlTable<S, L> {
         self.fault
     }
 
+    /// Lets other zones than that of the last call take about so many octets of memory from now on, a quarter of them for what changes
+    /// touch. What was kept of them goes.
+    pub fn limit_memory(&mut self, octets: usize)
+        ensures conn { self.new.conn ≡ self.old.conn }
+        ensures counts { self.new.book.total ≡ self.old.book.total }
+        ensures fault { self.new.fault ≡ self.old.fault }
+    {
+        self.zones = None;
+        self.histories = None;
+        self.memory = octets;
+    }
+
     /// The connection, without the count of failures.
     pub fn into_connection(self) -> Connection<S>
         ensures { result ≡ self.conn }
@@ -258,7 +306,9 @@ impl<S: Alter + Drop, L: Ledger> SqlTable<S, L> {
         ensures counts { CountsCall self.old.book.total self.new.book.total result }
     {
         self.cache = None;
+        self.zones = None;
         self.history = None;
+        self.histories = None;
         match put_zone(alloc, &mut self.conn, zone) {
             Ok(()) => Ok(()),
             Err(fault) => Err(self.count(fault)),
@@ -279,7 +329,9 @@ impl<S: Alter + Drop, L: Ledger> SqlTable<S, L> {
         ensures counts { CountsCall self.old.book.total self.new.book.total result }
     {
         self.cache = None;
+        self.zones = None;
         self.history = None;
+        self.histories = None;
         match take_place(alloc, &mut self.conn, zone) {
             Ok(()) => Ok(()),
             Err(fault) => Err(self.count(fault)),
@@ -302,7 +354,9 @@ impl<S: Alter + Drop, L: Ledger> SqlTable<S, L> {
         ensures counts { CountsCall self.old.book.total self.new.book.total result }
     {
         self.cache = None;
+        self.zones = None;
         self.history = None;
+        self.histories = None;
         match import(alloc, &mut self.conn, origin, records) {
             Ok(zone) => Ok(zone),
             Err(fault) => Err(self.count(fault)),
@@ -327,7 +381,9 @@ impl<S: Alter + Drop, L: Ledger> SqlTable<S, L> {
         ensures counts { CountsCall self.old.book.total self.new.book.total result }
     {
         self.cache = None;
+        self.zones = None;
         self.history = None;
+        self.histories = None;
         match replace(alloc, &mut self.conn, origin, records) {
             Ok(zone) => Ok(zone),
             Err(fault) => Err(self.count(fault)),
@@ -431,6 +487,7 @@ impl<S: Alter + Drop, L: Ledger> ZoneTable for SqlTable<S, L> {
     ghost failures = { λ t. t.book.total };
 
     fn has_zone(&mut self, alloc: Global, origin: &Name) -> Result<bool, TableFault> {
+        self.turn_cache(alloc, origin);
         match cached_or_held(alloc, &mut self.conn, &self.cache, origin) {
             Ok(found) => Ok(found),
             Err(fault) => Err(self.fail(fault)),
@@ -450,6 +507,7 @@ impl<S: Alter + Drop, L: Ledger> ZoneTable for SqlTable<S, L> {
         origin: &Name,
         names: &[Name],
     ) -> Result<Option<Zone>, TableFault> {
+        self.turn_cache(alloc, origin);
         match cached_part(alloc, &mut self.conn, &self.cache, origin, names) {
             Ok(part) => Ok(part),
             Err(fault) => Err(self.fail(fault)),
@@ -463,6 +521,7 @@ impl<S: Alter + Drop, L: Ledger> ZoneTable for SqlTable<S, L> {
         top: &Name,
         grants: &mut Grants<'_>,
     ) -> Result<Option<Vec<Record>>, TableFault> {
+        self.turn_cache(alloc, origin);
         match cached_subtree(
             alloc,
             &mut self.conn,
@@ -503,6 +562,7 @@ impl<S: Alter + Drop, L: Ledger> ZoneTable for SqlTable<S, L> {
         count: u32,
         most: u32,
     ) -> Result<Option<Vec<Change>>, TableFault> {
+        self.turn_history(alloc, origin);
         match changes_behind(alloc, &mut self.conn, origin, count, most) {
             Ok(None) => Ok(None),
             Ok(Some(changes)) => {
@@ -519,6 +579,7 @@ impl<S: Alter + Drop, L: Ledger> ZoneTable for SqlTable<S, L> {
         count: u32,
         grants: &mut Grants<'_>,
     ) -> Result<Ahead, TableFault> {
+        turn_on(&mut self.history, &mut self.histories, origin);
         let ahead = ahead_in(&self.history, origin, count, grants);
         if ahead.hidden == 0 {
             return Ok(ahead);
@@ -531,6 +592,8 @@ impl<S: Alter + Drop, L: Ledger> ZoneTable for SqlTable<S, L> {
     }
 
     fn commit(&mut self, alloc: Global, addition: Addition) -> Result<(), TableFault> {
+        // the zone at hand follows, and one of the same origin beside it would not
+        forget_on(&mut self.zones, &addition.receipt.origin);
         match commit_cached(alloc, &mut self.conn, &mut self.cache, &addition) {
             Ok(()) => Ok(()),
             Err(fault) => Err(self.fail(fault)),

@@ -3,3 +3,4 @@ pub mod PieceLemmas
 pub mod OwnerLemmas
 pub mod CacheLemmas
 pub mod HistoryLemmas
+pub mod ShelfLemmas

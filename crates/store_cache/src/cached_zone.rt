@@ -10,6 +10,7 @@ ghost use Rattle.office_model.specs.Tables.{addition_in};
 ghost use Rattle.store_cache.specs.Cache.{AreAllRecordsOf, AreIncludedOf, IsPartOf, cached_after, cached_in, changed_at, current_zone, is_cached_of};
 
 use crate::row_pieces::RowPieces;
+use crate::shelf::OfZone;
 use dns_data::Record;
 use dns_names::Name;
 use grant_policy::Grants;
@@ -74,6 +75,21 @@ impl CachedZone {
                 _ => Ok(None),
             },
         }
+    }
+}
+
+/// About how many octets of memory a record takes.
+const RECORD: usize = 400;
+
+impl OfZone for CachedZone {
+    ghost zone_origin = { λ cached. cached.origin };
+
+    fn is_of(&self, origin: &Name) -> bool {
+        self.origin == *origin
+    }
+
+    fn size(&self) -> usize {
+        self.rows.count().saturating_mul(RECORD)
     }
 }
 

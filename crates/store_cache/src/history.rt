@@ -10,6 +10,7 @@ ghost use Rattle.zone_core.specs.Changes.{ChangeOf, change_in};
 ghost use Rattle.office_model.specs.States.{Held, State};
 ghost use Rattle.store_cache.specs.History.{AreTouched, Covers, HasAlso, KnowsAll, Remembers, are_hidden, hides_each, includes_none, without_records};
 
+use crate::shelf::OfZone;
 use dns_data::{Record, RecordType};
 use dns_names::Name;
 use grant_policy::Grants;
@@ -220,6 +221,8 @@ fn behind(changes: &[Touched], count: u32) -> &[Touched]
 pub struct ZoneHistory {
     origin: Name,
     changes: Vec<Touched>,
+    /// How many owners and types they touch together.
+    points: usize,
 }
 
 impl ZoneHistory {
@@ -231,6 +234,7 @@ impl ZoneHistory {
         Ok(ZoneHistory {
             origin: origin.try_copy(alloc)?,
             changes: Vec::new(alloc),
+            points: 0,
         })
     }
 
@@ -265,8 +269,11 @@ impl ZoneHistory {
         let Some(mut last) = self.changes.pop() else {
             return Ok(());
         };
+        let before = last.points.len();
         push_point(alloc, &mut last.points, &self.origin, rr)?;
         last.records = last.records.saturating_add(1);
+        let more = last.points.len().saturating_sub(before);
+        self.points = self.points.saturating_add(more);
         self.changes.push(last)?;
         Ok(())
     }
@@ -282,9 +289,11 @@ impl ZoneHistory {
             let Ok(touched) = Touched::of(alloc, &self.origin, change) else {
                 return;
             };
+            let more = touched.points.len();
             if self.changes.push(touched).is_err() {
                 return;
             }
+            self.points = self.points.saturating_add(more);
         }
     }
 
@@ -308,6 +317,24 @@ impl ZoneHistory {
             Ok(hidden) => Ahead { hidden, shown },
             Err(_) => unknown(),
         }
+    }
+}
+
+/// About how many octets of memory a change takes, and each owner and type that it touches.
+const CHANGE: usize = 48;
+
+const POINT: usize = 128;
+
+impl OfZone for ZoneHistory {
+    ghost zone_origin = { λ zone. zone.origin };
+
+    fn is_of(&self, origin: &Name) -> bool {
+        self.origin == *origin
+    }
+
+    fn size(&self) -> usize {
+        let changes = self.changes.len().saturating_mul(CHANGE);
+        changes.saturating_add(self.points.saturating_mul(POINT))
     }
 }
 

@@ -6,8 +6,10 @@ mod history;
 mod owners;
 mod record_rows;
 mod row_pieces;
+mod shelf;
 
 pub use cached_zone::{
     CachedZone, cached_of, follow, is_cached, part_of_cached, subtree_of_cached, take_cached,
 };
 pub use history::{ZoneHistory, ahead_in, remember};
+pub use shelf::{OfZone, Shelf, forget_on, turn_on, turn_to};

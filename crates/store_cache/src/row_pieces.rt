@@ -192,6 +192,15 @@ impl RowPieces {
         Ok(RowPieces { pieces })
     }
 
+    /// How many rows there are, as far as a number of this kind goes.
+    pub(crate) fn count(&self) -> usize {
+        let mut count = 0usize;
+        for piece in &self.pieces {
+            count = count.saturating_add(piece.len());
+        }
+        count
+    }
+
     /// The rows whose owners are meant, in record order: those of one piece after those of another. The only error is out of memory.
     fn parts_of(&self, alloc: Global, owners: Owners<'_>) -> Result<Vec<&[Record]>, AllocError>
         ensures value { IfOk result (λ parts. flat_map (λ part. part.now) parts.items ≡ filter (λ r. has_key owners.entry (key_of r)) self.now) }

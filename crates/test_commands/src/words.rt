@@ -301,7 +301,8 @@ fn push_service(
     push_all(&[") (", service.listen, ")"], answer)?;
     push_number(alloc, " ", service.connections, answer)?;
     push_number(alloc, " patience ", service.patience, answer)?;
-    push_number(alloc, " longest ", service.longest, answer)
+    push_number(alloc, " longest ", service.longest, answer)?;
+    push_number(alloc, " memory ", service.memory, answer)
 }
 
 /// Appends a number after a word where one was given.

@@ -23,6 +23,8 @@ pub struct Service<'a> {
     pub patience: Option<u64>,
     /// After how many seconds to end a connection between two requests, where a number is given.
     pub longest: Option<u64>,
+    /// How many MB of memory zones may take that were asked for before, where a number is given.
+    pub memory: Option<u64>,
 }
 
 pub(super) static ROW: Row = Row {
@@ -36,6 +38,7 @@ pub(super) static ROW: Row = Row {
         Argument::Connections,
         Argument::Patience,
         Argument::Longest,
+        Argument::Memory,
     ],
 };
 
@@ -48,6 +51,7 @@ impl<'a> CommandWords<'a> for Service<'a> {
         let connections = number_at(matches, Argument::Connections)?;
         let patience = number_at(matches, Argument::Patience)?;
         let longest = number_at(matches, Argument::Longest)?;
+        let memory = number_at(matches, Argument::Memory)?;
         let service = Service {
             store,
             policy,
@@ -55,6 +59,7 @@ impl<'a> CommandWords<'a> for Service<'a> {
             connections,
             patience,
             longest,
+            memory,
         };
         Some(Job::Store(StoreJob::Serve(service)))
     }

@@ -1,6 +1,6 @@
 use Rattle.std.proofs.Common.{rules}
 use Rattle.sqlite.specs.Held.{state}
-use Rattle.office_store.proofs.HistoryLemmas.{kept}
+use Rattle.office_store.proofs.ShelfLemmas.{kept}
 use Rattle.office_store.proofs.QueryLemmas.{settled_of}
 use Rattle.office_store.proofs.table.SqlTableZoneTable.receipt.Goals as goal
 
