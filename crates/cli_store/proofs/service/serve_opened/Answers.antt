@@ -1,4 +1,4 @@
-use Rattle.std.proofs.Common.{ap, refl}
+use Rattle.std.proofs.Common.{ap, refl, sym}
 use Rattle.sqlite.specs.Held.{state}
 use Rattle.cli_store.specs.Around.{Callers}
 use Rattle.cli_store.specs.Serve.{parties_of}
@@ -13,10 +13,10 @@ returns g c =
     let table = c.limit_memory.new.self in
     let left = c.serve_table-done.new.table in
     let callers : Callers _ _ = record { cut = g.M.Listener.Socket.cut; gives = g.M.Listener.Socket.gives; ends = g.M.Listener.Socket.ends; flow = g.M.Listener.Peer.Peer.flow; times = g.M.Listener.Peer.Peer.times } in
-    rw c.into_connection.ensures (record {
+    rw (c.into_connection.ensures, sym c.limit_memory.ensures.conn) (record {
       honest = e.honest;
       before = record { conn = table.conn; failures = table.book.total; fault = table.fault };
-      before_is = c.limit_memory.ensures.conn;
+      before_is = refl;
       left = record { conn = left.conn; failures = left.book.total; fault = left.fault };
       left_is = refl;
       told = told_as (g.M.Surroundings.around c.args.around.now) _ _ _ _ _ _ _ _ (λ idle. (ap (λ t. t.conn) idle.0, idle.1, idle.2))
