@@ -52,6 +52,9 @@ def stated():
     for name, text in {"action": actions, **seconds}.items():
         if not helps.get(name, "").endswith(text):
             yield f"{sources.ARGUMENTS}: the help of {name} does not say: {text}"
+    for rule in re.findall(r"[a-z]+-[a-z]+", helps.get("only", "")):
+        if rule not in sources.rules():
+            yield f"{sources.ARGUMENTS}: the help of only names {rule}, and the sources do not"
 
 
 def defaults_of_formats():
