@@ -1,5 +1,6 @@
 """What the scripts that try adapters share: an office behind nginx with the page's rules before its policy, and Knot, which `publish` feeds."""
 
+import base64
 import contextlib
 import http.client
 import http.server
@@ -8,6 +9,7 @@ import os
 import re
 import signal
 import sqlite3
+import ssl
 import subprocess
 import threading
 import time
@@ -109,10 +111,11 @@ def receipts(caller, zone="example.org."):
         return copy.execute("SELECT id, reply FROM receipts WHERE caller = ? AND origin = ?", (caller, zone)).fetchall()
 
 
-# runs a program, and kills it when it comes to so many different lines of an adapter's code; with 0 it prints how many there were
+# runs a program, and kills it when it comes to so many different lines of an adapter's code; with 0 it prints how many there were. The
+# adapters are where they are installed, or in the folder of ADAPTERS
 STOPPER = """
 import os, runpy, sys, threading
-FOLDER, at, seen = "/usr/local/lib/zoneoffice/", int(sys.argv[1]), set()
+FOLDER, at, seen = os.environ.get("ADAPTERS", "/usr/local/lib/zoneoffice/"), int(sys.argv[1]), set()
 def trace(frame, event, _):
     if not frame.f_code.co_filename.startswith(FOLDER):
         return None
@@ -148,7 +151,8 @@ def lines_of(*words, **more):
 
 
 class Losing(http.server.ThreadingHTTPServer):
-    """Hands requests to the office as a caller, and loses the first reply to each update, or calls a function before one."""
+    """Hands requests to the office as a caller, or to the front server with the caller's password, and loses the first reply to each
+    update, and where it says so to each reading, or calls a function before one."""
 
     class Handler(http.server.BaseHTTPRequestHandler):
         """One request and its reply."""
@@ -156,12 +160,13 @@ class Losing(http.server.ThreadingHTTPServer):
         def answer(self):
             body = self.rfile.read(int(self.headers.get("Content-Length") or 0))
             self.server.before(body)
-            office = http.client.HTTPConnection("127.0.0.1", 8053, timeout=60)
-            office.request(self.command, self.path, body or None, {"X-Office-Caller": self.server.caller, "Connection": "close"})
+            office, fields = self.server.way()
+            office.request(self.command, self.path, body or None, {**fields, "Connection": "close"})
             response = office.getresponse()
             text = response.read()
-            if body and self.server.loses and body not in self.server.lost:
-                self.server.lost.add(body)
+            asked = body or self.server.reads and self.path
+            if asked and self.server.loses and asked not in self.server.lost:
+                self.server.lost.add(asked)
                 return
             self.send_response(response.status)
             self.send_header("Content-Length", str(len(text)))
@@ -173,10 +178,19 @@ class Losing(http.server.ThreadingHTTPServer):
         def log_message(self, *_):
             pass
 
-    def __init__(self, caller, before=lambda body: None, loses=True):
+    def __init__(self, caller, before=lambda body: None, loses=True, reads=False, front=False):
         super().__init__(("127.0.0.1", 0), self.Handler)
-        self.caller, self.before, self.loses, self.lost, self.port = caller, before, loses, set(), self.server_address[1]
+        self.caller, self.before, self.loses, self.reads, self.front = caller, before, loses, reads, front
+        self.lost, self.port = set(), self.server_address[1]
         threading.Thread(target=self.serve_forever, daemon=True).start()
+
+    def way(self):
+        """A connection, and the fields that say who asks."""
+        if not self.front:
+            return http.client.HTTPConnection("127.0.0.1", 8053, timeout=60), {"X-Office-Caller": self.caller}
+        pair = base64.b64encode(f"{self.caller}:{password(self.caller)}".encode()).decode()
+        context = ssl.create_default_context(cafile=CERTIFICATE)
+        return http.client.HTTPSConnection("office.example.org", timeout=60, context=context), {"Authorization": f"Basic {pair}"}
 
     def close(self):
         self.shutdown()

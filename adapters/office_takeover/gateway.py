@@ -1,9 +1,12 @@
 """The configuration of office-2136 with the keys of named.conf."""
 
+import contextlib
+import errno
 import json
 import os
 
 from office_takeover.clauses import Configuration
+from office_takeover.records import NEW
 
 
 def gateway_text(found: Configuration, listen: list[str], reader: str) -> tuple[str, list[str]]:
@@ -25,13 +28,19 @@ def gateway_text(found: Configuration, listen: list[str], reader: str) -> tuple[
 
 
 def write_secret(path: str, text: str) -> None:
-    """Writes a new file that only its owner reads. One that is there, or a link, is refused, and so is a terminal."""
-    handle = os.open(path, os.O_WRONLY | os.O_CREAT | os.O_EXCL | os.O_NOFOLLOW | os.O_CLOEXEC, 0o600)
+    """Writes a new file that only its owner reads, whole or not at all. One that is there, or a link, is refused, and so is a terminal.
+    What a killed run left beside it goes."""
+    new = path + NEW
+    with contextlib.suppress(FileNotFoundError):
+        os.unlink(new)
+    if os.path.lexists(path):
+        raise FileExistsError(errno.EEXIST, os.strerror(errno.EEXIST), path)
+    handle = os.open(new, os.O_WRONLY | os.O_CREAT | os.O_EXCL | os.O_NOFOLLOW | os.O_CLOEXEC, 0o600)
     try:
         with open(handle, "w", encoding="utf-8") as file:
             file.write(text)
             file.flush()
             os.fsync(handle)
-    except BaseException:
-        os.unlink(path)
-        raise
+        os.link(new, path)
+    finally:
+        os.unlink(new)

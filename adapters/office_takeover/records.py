@@ -1,9 +1,9 @@
 """Records of a zone of any types, as a master file or a transfer has them, and their lines."""
 
+import contextlib
 import dataclasses
 import os
 import re
-import secrets
 from collections.abc import Iterable
 from typing import Any
 
@@ -21,6 +21,7 @@ from office_takeover.named import Wrong
 
 GENERIC = re.compile(r"^(?P<head>[^\n;\"]*\s)(?P<type>\w+)[ \t]+\\#[ \t]+(?P<length>[0-9]{1,5})(?P<data>(?:[ \t]+[0-9A-Fa-f]+)*)[ \t\r]*$", re.M)
 LARGEST = 256 << 20  # octets of a master file
+NEW = ".office-takeover"  # the end of the name of a file that is not whole yet
 SIGNER = {"RRSIG", "NSEC", "NSEC3", "NSEC3PARAM", "DNSKEY", "CDS", "CDNSKEY", "ZONEMD", "SIG", "NXT", "TYPE65534"}  # BIND's own: 65534
 
 
@@ -160,8 +161,10 @@ def read_master(text: str, origin: dns.name.Name, path: str) -> Zone:
 
 
 def write(path: str, lines: Iterable[str]) -> None:
-    """Puts lines in the place of a file, whole or not at all."""
-    new = f"{path}.{secrets.token_hex(8)}.new"
+    """Puts lines in the place of a file, whole or not at all. What a killed run left beside it goes."""
+    new = path + NEW
+    with contextlib.suppress(FileNotFoundError):
+        os.unlink(new)
     handle = os.open(new, os.O_WRONLY | os.O_CREAT | os.O_EXCL | os.O_NOFOLLOW | os.O_CLOEXEC, 0o644)
     try:
         with open(handle, "w", encoding="ascii") as file:

@@ -166,6 +166,20 @@ class Keys(unittest.TestCase):
             for one in path, f"{folder}/link":
                 with self.assertRaises(FileExistsError):
                     gateway.write_secret(one, "y")
+            self.assertEqual(pathlib.Path(path).read_text(encoding="ascii"), "x")
+            self.assertEqual(sorted(os.listdir(folder)), ["gateway.toml", "link"])
+
+    def test_broken(self) -> None:
+        """A fault leaves nothing, and what a killed run left goes."""
+        with tempfile.TemporaryDirectory() as folder:
+            path = f"{folder}/gateway.toml"
+            pathlib.Path(path + records.NEW).write_text("half", encoding="ascii")
+            with mock.patch("os.fsync", side_effect=OSError(28, "full")), self.assertRaises(OSError):
+                gateway.write_secret(path, "x")
+            self.assertEqual(os.listdir(folder), [])
+            pathlib.Path(path + records.NEW).write_text("half", encoding="ascii")
+            records.write(path, ["x"])
+            self.assertEqual(os.listdir(folder), ["gateway.toml"])
 
 
 class Zones(unittest.TestCase):
