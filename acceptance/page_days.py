@@ -197,6 +197,7 @@ def undo_and_edit(phys, named):
 def a_closed_tab(phys, named):
     phys.edit("day12.physics", "192.0.2.64")
     phys.in_new_tab()
+    phys.ready()
     expect("day 12, the tab was closed: the changes are there", [line[:2] for line in phys.plan()], [["day12.physics", "new A 192.0.2.64 1 h"]])
     expect("and can be sent", (phys.send(), named.dig(p("day12"))), ("made", ["192.0.2.64"]))
 
