@@ -550,9 +550,9 @@ def an_alias_of_nothing(browser, named):
     (_, _, marks), = browser.plan()
     expect("day 30, an alias of a name that is not there: the plan says that it would not work", marks,
            [f"this would not work: there is nothing at {p('longer')}", "you may (rule physics)"])
-    browser.edit("longer.physics", "192.0.2.93")
+    browser.edit("longer.physics", "192.0.2.253")
     expect("with its host in the same update nothing is said", [line[2] for line in browser.plan()], [["you may (rule physics)"]] * 2)
-    expect("both are live", (browser.send(), named.dig(p("short"))), ("made", ["192.0.2.93", p("longer")]))
+    expect("both are live", (browser.send(), named.dig(p("short"))), ("made", ["192.0.2.253", p("longer")]))
     browser.view("records")
     browser.filter("longer")
     browser.press(f"[aria-label^='Delete {p('longer')} A']")
@@ -562,7 +562,7 @@ def an_alias_of_nothing(browser, named):
     browser.press("#undo")
     browser.view("records")
     browser.filter("")
-    expect("undone, it is as it was", named.dig(p("short")), ["192.0.2.93", p("longer")])
+    expect("undone, it is as it was", named.dig(p("short")), ["192.0.2.253", p("longer")])
 
 
 def all_days(browser, named):
