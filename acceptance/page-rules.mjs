@@ -28,13 +28,14 @@ const chance = (most) => {
 const one = (list) => list[chance(list.length)];
 const some = (list, most) => Array.from({length: chance(most + 1)}, () => one(list));
 
-const LABELS = ["a", "lab", "www", "my_pc", "ns1", "-x", "x-", "*", "b\\195\\188cher", "xn--bcher-kva", "gc._msdcs", "a._spf", "b._dns-sd._udp", "c\\.d", "mail"];
+const LABELS = ["a", "lab", "www", "my_pc", "ns1", "-x", "x-", "*", "b\\195\\188cher", "xn--bcher-kva", "gc._msdcs", "a._spf", "b._dns-sd._udp", "c\\.d", "mail", "a#b",
+    "x~", "\\\"d\\\\", "b.*"];
 const BRANCHES = ["", "physics.", "lab.physics.", "library.", "medicine.", "deep.medicine."];
 const ORIGINS = ["example.org.", "2.0.192.in-addr.arpa."];
 const TYPES = ["A", "A", "A", "AAAA", "CNAME", "CNAME", "MX", "NS", "NS", "PTR", "TXT", "SRV", "DS", "SOA"];
 
 const someName = (origin) => (chance(5) === 0 ? one(BRANCHES) : `${one(LABELS)}.${one(BRANCHES)}`) + origin;
-const someTarget = (origin) => (chance(6) === 0 ? one(["ns2.example.net.", "h_x.example.net.", ".", "deep.example.com."]) : someName(origin));
+const someTarget = (origin) => (chance(6) === 0 ? one(["ns2.example.net.", "h_x.example.net.", ".", "deep.example.com.", "192.0.2.1.", "192.0.2.256.", "00.0255.1.2.", "{x}.example.net."]) : someName(origin));
 const DATA = {
     A: () => `192.0.2.${chance(6)}`,
     AAAA: () => `2001:db8::${1 + chance(4)}`,
@@ -42,7 +43,7 @@ const DATA = {
     MX: (origin) => `${1 + chance(3)}0 ${someTarget(origin)}`,
     TXT: () => `"${one(["a", "b c", "M\\195\\188nchen", "q\\\"", "\\\\"])}"`,
     SRV: (origin) => `0 ${chance(2)} 389 ${someTarget(origin)}`,
-    DS: () => `${chance(3)} 13 2 ${one(["ab", "cd01"])}`,
+    DS: () => `${chance(3)} 13 ${chance(6)} ${one(["ab", "cd"]).repeat(one([1, 2, 20, 20, 31, 32, 32, 48, 48, 49]))}`,
     SOA: (origin) => `${someTarget(origin)} ${one(["hostmaster", "john\\.doe", "my_box"])}.${origin} ${one([6, 7, 8, 9, 4294967295])} 3600 600 86400 60`,
 };
 
@@ -151,6 +152,7 @@ async function firstDenied(caller, {prerequisites, operations}, origin) {
 
 const ended = {};
 const tell = (what, number) => (ended[what] = (ended[what] ?? 0) + number);
+RULES.forEach((rule) => tell(rule, 0));
 const differ = (what, ...values) => console.log([`differs: ${what}`, ...values.map((value) => JSON.stringify(value))].join("\n    "));
 
 /** What the page says of an update. Somebody else may have made another one since the records were read. */
@@ -193,8 +195,8 @@ async function compareFindings(origin, records) {
     const ordered = [...records].sort((a, b) => compareNames(a.name, b.name));
     const zone = new Zone(origin, ordered);
     const found = findings(foresee([], zone).outlook).map(({rule, record}) => `${rule} ${lineOf(record)}`);
-    const said = (await run(zoneText(ordered), "check", "zone", "--origin", origin)).trim().split("\n")
-        .filter((line) => RULES.includes(line.split(" ")[0]));
+    const said = (await run(zoneText(ordered), "check", "zone", "--origin", origin)).split("\n").filter(Boolean);
+    said.forEach((line) => tell(line.split(" ")[0], 1));
     tell("findings", said.length);
     if (found.sort().join("\n") !== said.sort().join("\n")) {
         differ("what is at fault in a zone", ordered.map(lineOf), found.filter((line) => !said.includes(line)), said.filter((line) => !found.includes(line)));

@@ -197,6 +197,7 @@ def undo_and_edit(phys, named):
 def a_closed_tab(phys, named):
     phys.edit("day12.physics", "192.0.2.64")
     phys.in_new_tab()
+    phys.ready()
     expect("day 12, the tab was closed: the changes are there", [line[:2] for line in phys.plan()], [["day12.physics", "new A 192.0.2.64 1 h"]])
     expect("and can be sent", (phys.send(), named.dig(p("day12"))), ("made", ["192.0.2.64"]))
 
@@ -496,9 +497,77 @@ def delegations(browser, named):
     expect("nothing is left of it", (result, named.dig(name, "NS"), [row for row in listed("admin") if "medicine" in row]), ("made", [], []))
 
 
+KEY = "60485 13 2 2bb183af5f22588179a53b0a98631fad1a292118a4d0e3f0b2d9a8f3c4b5a697"
+
+
+def a_key_cut_short(browser, named):
+    """A key loses its end where it is pasted; and one of SHA-1."""
+    name = f"medicine.{ZONE}"
+
+    def delegate(key, press):
+        browser.open("delegations", "delegations? of .*read at")
+        browser.press(press)
+        browser.write("child", "medicine")
+        browser.write("server-1-name", "ns2.example.net")
+        browser.write("child-ds", key)
+        browser.press("#delegate .main")
+        return [mark for _, words, marks in browser.plan() for mark in marks if " DS " in words and "you may" not in mark]
+
+    said = delegate(KEY[:-2], "#delegate-new")
+    browser.press("#review-send")
+    browser.wait("document.getElementById('send-anyway')", "the second press")
+    expect("day 28, a key that was cut short as it was pasted: the plan says that name servers refuse the zone, and one press does not send it",
+           (said, named.dig(name, "DS")), ([f"name servers would refuse the zone: the digest of a key of {name} is too short or too long for its type"], []))
+    browser.press("#undo")
+    said = delegate(f"60485 13 1 {KEY.split()[3][:40]}", "#delegate-new")
+    expect("of one of SHA-1 they would warn", said, [f"name servers would warn: the digest of a key of {name} is of SHA-1 (type 1); use SHA-256 (type 2)"])
+    browser.press("#undo")
+    expect("the whole key is live", (delegate(KEY, "#delegate-new"), browser.send(), named.take(), "".join(named.dig(name, "DS")).replace(" ", "").lower()),
+           ([], "made", [], KEY.replace(" ", "")))
+
+
+def what_one_server_refuses(browser, named):
+    browser.sign_in("phys")
+    browser.edit("a+b.physics", "room 12", "TXT")
+    (_, _, marks), = browser.plan()
+    expect("day 29, a name that Knot does not read: the plan says so", marks,
+           [f"name servers would refuse the zone: {p('a+b')} has a character that Knot does not read", "you may (rule physics)"])
+    browser.press("#review-send")
+    browser.press("#send-anyway")
+    browser.wait("document.getElementById('result').className === 'made' && !document.getElementById('result').hidden", "the result")
+    expect("sent all the same, Knot refuses it, and the others have it", (named.take(), named.dig(p("a+b"), "TXT")),
+           (["knot"], {"bind": ['"room 12"'], "knot": [], "nsd": ['"room 12"']}))
+    browser.view("records")
+    browser.filter("a+b")
+    browser.press("[aria-label^='Delete a+b.physics']")
+    expect("deleted, all have the zone again", (browser.send(), named.take(), named.dig(p("a+b"), "TXT")), ("made", [], []))
+    browser.view("records")
+    browser.filter("")
+
+
+def an_alias_of_nothing(browser, named):
+    browser.edit("short.physics", f"longer.physics.{ZONE}", "CNAME")
+    (_, _, marks), = browser.plan()
+    expect("day 30, an alias of a name that is not there: the plan says that it would not work", marks,
+           [f"this would not work: there is nothing at {p('longer')}", "you may (rule physics)"])
+    browser.edit("longer.physics", "192.0.2.253")
+    expect("with its host in the same update nothing is said", [line[2] for line in browser.plan()], [["you may (rule physics)"]] * 2)
+    expect("both are live", (browser.send(), named.dig(p("short"))), ("made", ["192.0.2.253", p("longer")]))
+    browser.view("records")
+    browser.filter("longer")
+    browser.press(f"[aria-label^='Delete {p('longer')} A']")
+    (_, _, marks), = browser.plan()
+    expect("and where the host goes, the alias that is left is named", marks,
+           [f"this would not work: short.physics CNAME: there is nothing at {p('longer')}", "you may (rule physics)"])
+    browser.press("#undo")
+    browser.view("records")
+    browser.filter("")
+    expect("undone, it is as it was", named.dig(p("short")), ["192.0.2.253", p("longer")])
+
+
 def all_days(browser, named):
     """All of them, in one browser. A day that breaks off is one that differs, and the next one begins anew."""
-    for story in (*DAYS, who_may_add_only, who_may_not_delete, delegations):
+    for story in (*DAYS, who_may_add_only, who_may_not_delete, delegations, a_key_cut_short, what_one_server_refuses, an_alias_of_nothing):
         try:
             story(browser, named)
         except (TimeoutError, RuntimeError, WebDriverException) as fault:

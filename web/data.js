@@ -109,6 +109,8 @@ export function textOf(data) {
 
 // ---- data of any type
 
+const isQuoted = (item) => item.replace(/\\./gs, "").includes('"');
+
 /** Data as they were typed. `other` are those by the other reading of the name in them, where there is one. */
 export function readData(type, typed, zone, has) {
     const text = typed.trim();
@@ -131,7 +133,7 @@ export function readData(type, typed, zone, has) {
         if (items[at] === undefined) {
             return {fault: 15};
         }
-        const one = items[at].includes('"') ? {fault: 20} : reader(items[at], {zone, has});
+        const one = isQuoted(items[at]) ? {fault: 20} : reader(items[at], {zone, has});
         if (one.fault) {
             return {fault: one.fault, within: one.within, item: items[at]};
         }

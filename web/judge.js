@@ -1,7 +1,7 @@
 // What comes of the changes before they are sent: what the policy decides, what would do nothing, what somebody else changed meanwhile,
 // and what name servers would refuse.
 
-import {ADDRESSES} from "./data.js";
+import {ADDRESSES, TYPES} from "./data.js";
 import {conflictOf, foresee, obstacles, setsOf, updatesOf} from "./edits.js";
 import {askRights, denied, rightOf} from "./office.js";
 import {pointsOf} from "./points.js";
@@ -25,7 +25,7 @@ export function faultsBefore() {
 
 /** Whether the caller can list all by which a rule was found broken: else what it lacks may be there. */
 function doubts({rule, record, server}) {
-    const types = {"missing-address": ["A", "AAAA", "CNAME"], "missing-glue": ["A", "AAAA"], "ds-without-ns": ["NS"]}[rule] ?? [];
+    const types = {"missing-address": ["A", "AAAA", "CNAME"], "missing-glue": ["A", "AAAA"], "ds-without-ns": ["NS"], "dangling-alias": TYPES}[rule] ?? [];
     return types.map((type) => ({action: "list", name: server ?? record.name, type}));
 }
 
@@ -33,7 +33,7 @@ function doubts({rule, record, server}) {
 export function newFaults(outlook, records) {
     const before = faultsBefore().keys;
     const found = findings(outlook, records).filter((fault) => !before.has(keyOf(fault)));
-    const points = found.flatMap(doubts);
+    const points = found.sort((a, b) => Number(stopsZone(b)) - Number(stopsZone(a))).flatMap(doubts).slice(0, MOST_QUESTIONS);
     if (points.some((point) => rightOf(point) === undefined)) {
         askRights(points);
     }
@@ -73,10 +73,16 @@ function judgeLine({edit, operations, isIdle, why}, outlook, faults, owners) {
     line.unchecked = denied(checksOf(edit));
     line.obstacles = obstacles(edit, why, outlook);
     line.faults = faults.filter(isAbout(edit));
-    line.stops = line.faults.some(stopsZone);
     line.sharers = sharers(edit, owners);
     line.isBlocked = !edit.sent && Boolean(line.conflict || line.denied.length || why);
     return line;
+}
+
+/** What is about no name of an edit, as where a wildcard no longer answers for a server, is said of the first that can be sent. */
+function placeOthers(judged, faults) {
+    const said = new Set(judged.flatMap((line) => line.faults));
+    const line = judged.find(({isBlocked}) => !isBlocked) ?? judged[0];
+    line?.faults.push(...faults.filter((fault) => !said.has(fault)));
 }
 
 /** All changes judged. What the policy decides is asked for, and `rights` is announced when it is known. */
@@ -89,6 +95,8 @@ export function judge() {
     const faults = edits.length ? newFaults(outlook) : [];
     const owners = ownersOf(edits, outlook);
     const judged = lines.map((line) => judgeLine(line, outlook, faults, owners));
+    placeOthers(judged, faults);
+    judged.forEach((line) => (line.stops = line.faults.some(stopsZone)));
     const blocked = new Set(judged.filter(({isBlocked, edit}) => isBlocked && edit.group).map(({edit}) => edit.group));
     judged.filter(({edit, isBlocked}) => !isBlocked && !edit.sent && blocked.has(edit.group)).forEach((line) => {
         line.isHeld = line.isBlocked = true; // they belong together

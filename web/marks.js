@@ -3,7 +3,7 @@
 import {button, make} from "./elements.js";
 import {isReverse, toUnicode, relative} from "./names.js";
 import {decidedBy, rightOf} from "./office.js";
-import {stopsZone} from "./rules.js";
+import {isSilent, stopsZone} from "./rules.js";
 import {state} from "./state.js";
 import {t} from "./text.js";
 import {ttlText} from "./data.js";
@@ -60,12 +60,13 @@ function idleMarks({edit, why, obstacles, isIdle}, {drop}) {
 
 function faultMarks({faults, edit}, {rename}) {
     return faults.flatMap((fault) => {
-        const {rule, record, server} = fault;
+        const {rule, record, server = fault.at} = fault;
         const isOwn = edit.now && record.name === edit.now.name;
-        const text = `${isOwn ? "" : `${own(record.name)} ${record.type}: `}${t(rule, server ? named(server) : named(record.name))}`;
+        const text = `${isOwn ? "" : `${own(record.name)} ${record.type}: `}${t(rule, named(server ?? record.name))}`;
         const better = rule === "host-name" && isOwn && rename ? edit.now.name.replaceAll("_", "-") : null;
         const repair = better && better !== edit.now.name ? [button(t("makeIt", own(better)), () => rename(better))] : [];
-        return [mark(stopsZone(fault) ? "bad" : "warn", `${t(stopsZone(fault) ? "wouldStop" : "wouldWarn")} ${text}`, ...repair)];
+        const stops = stopsZone(fault);
+        return [mark(stops ? "bad" : "warn", `${t(stops ? "wouldStop" : isSilent(fault) ? "wouldFail" : "wouldWarn")} ${text}`, ...repair)];
     });
 }
 

@@ -1,11 +1,13 @@
-// What the office takes and other name servers refuse or warn of: the first six rules of `zoneoffice check zone` (docs/formats.md).
+// What the office takes and other name servers refuse or warn of: the rules of `zoneoffice check zone` (docs/formats.md).
 
 import {targetOf} from "./data.js";
 import {isHost, isHostOwner, isReverse, isWithin, labelsOf, parentOf} from "./names.js";
 import {upwards} from "./zone.js";
 
-export const RULES = ["host-name", "alias-target", "missing-address", "missing-glue", "below-cut", "ds-without-ns"];
+export const RULES = ["host-name", "alias-target", "missing-address", "missing-glue", "below-cut", "ds-without-ns", "wildcard-ns", "digest-length", "weak-digest",
+    "address-name", "unread-octet", "dangling-alias"];
 
+const SERVED = ["NS", "MX", "SRV"];
 const isAddress = ({type}) => type === "A" || type === "AAAA";
 const SPF_LABELS = ["_spf", "_spf_rate", "_spf_verify"];
 const BROWSING_LABELS = ["b", "db", "r", "dr", "lb"];
@@ -35,6 +37,29 @@ const fitsOwner = {
 
 /** Whether a record has the names of hosts where it needs them. */
 export const hasHostNames = (record) => fitsOwner[record.type]?.(record) ?? true;
+
+// ---- what is wrong with a record by itself
+
+const DIGITS = {1: 40, 2: 64, 4: 96}; // of digests by SHA-1, SHA-256 and SHA-384 (RFC 4034 section 5.1, RFC 4509 section 2.1, RFC 6605 section 2)
+const UNREAD = /[!#%&'+,:<=>?[\]^`{|}~]/;
+
+const hasLength = ([, , digestType, digest]) => digest.length === (DIGITS[digestType] ?? digest.length);
+const isOctet = (label) => /^[0-9]+$/.test(label) && Number(label) < 256;
+const isAddressName = (name) => labelsOf(name).length === 4 && labelsOf(name).every(isOctet);
+const namesIn = (record) => (record.type === "SOA" ? record.data.split(" ").slice(0, 2) : [targetOf(record) ?? "."]);
+const NAMES_AT_FAULT = {
+    "host-name": (record) => namesIn(record).find((name) => !isHost(name)),
+    "address-name": targetOf,
+    "unread-octet": (record) => namesIn(record).find((name) => UNREAD.test(name)),
+};
+const OWN_FAULTS = Object.entries({
+    "host-name": (record) => !hasHostNames(record),
+    "wildcard-ns": ({name, type}) => type === "NS" && name.startsWith("*."),
+    "digest-length": ({type, data}) => type === "DS" && !hasLength(data.split(" ")),
+    "weak-digest": ({type, data}) => type === "DS" && data.split(" ")[2] === "1",
+    "address-name": (record) => isAddressName(targetOf(record) ?? "."),
+    "unread-octet": (record) => UNREAD.test(record.name) || namesIn(record).some((name) => UNREAD.test(name)),
+});
 
 // ---- the zone as a whole
 
@@ -104,13 +129,28 @@ class Survey {
         return answers.some(({type}) => type === "CNAME") ? "alias-target" : answers.some(isAddress) ? undefined : "missing-address";
     }
 
-    /** Puts the rules by which a record is at fault into a list, with the server that it is about. */
-    judge(record, found) {
-        if (!hasHostNames(record)) {
-            found.push({rule: "host-name", record});
+    /** Whether an alias is one of nothing. */
+    dangles(record, target) {
+        return !this.isDelegated(target) && !this.isOccluded(record) && this.answering(target).length === 0;
+    }
+
+    /** The rule that a record breaks by the server or other name in the zone that it points to. */
+    brokenByTarget(record, target) {
+        if (record.type === "CNAME") {
+            return this.dangles(record, target) ? "dangling-alias" : undefined;
         }
-        const server = ["NS", "MX", "SRV"].includes(record.type) ? targetOf(record) : null;
-        const broken = server !== null && isWithin(server, this.zone.origin) ? this.brokenBy(record, server) : undefined;
+        return SERVED.includes(record.type) ? this.brokenBy(record, target) : undefined;
+    }
+
+    /** Puts the rules by which a record is at fault into a list, with the name in its data that is at fault, if one is. */
+    judge(record, found) {
+        for (const [rule, isFaulty] of OWN_FAULTS) {
+            if (isFaulty(record)) {
+                found.push({rule, record, at: NAMES_AT_FAULT[rule]?.(record)});
+            }
+        }
+        const server = targetOf(record);
+        const broken = server !== null && isWithin(server, this.zone.origin) ? this.brokenByTarget(record, server) : undefined;
         if (broken) {
             found.push({rule: broken, record, server});
         }
@@ -136,6 +176,12 @@ export function findings(outlook, records) {
     return found;
 }
 
-/** Whether name servers may refuse the whole zone for it, so that nobody's changes go live: BIND does for each of these. */
-export const stopsZone = ({rule, record}) => rule === "host-name" || rule === "ds-without-ns"
-    || (record.type === "NS" && ["alias-target", "missing-address", "missing-glue"].includes(rule));
+const STOPPING = ["host-name", "wildcard-ns", "digest-length", "unread-octet"];
+const STOPPING_NS = ["alias-target", "missing-address", "missing-glue"];
+const SILENT = ["below-cut", "ds-without-ns", "dangling-alias"];
+
+/** Whether BIND or Knot refuses the whole zone for it, so that nobody's changes go live. */
+export const stopsZone = ({rule, record}) => STOPPING.includes(rule) || (record.type === "NS" && STOPPING_NS.includes(rule));
+
+/** Whether no name server says anything of it, and it does not work all the same. */
+export const isSilent = ({rule}) => SILENT.includes(rule);

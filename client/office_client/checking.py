@@ -11,7 +11,7 @@ from .tables import TYPES
 from .update import Part, Update
 from .zone import Zone
 
-ASKED = 16  # operations of an update of which it is asked whether the caller may list what they are about
+ASKED = 16  # operations of an update, and findings that stop nothing, of which it is asked whether the caller may list what they are about
 ABSENT = ("no ", "it is not there")  # how reasons begin that hold only if all records are listed
 
 
@@ -78,25 +78,36 @@ def is_sure(session: Session, part: Part, reason: str) -> bool:
     return all(session.server.may(part.name, kind, "list")[0] for kind in kinds)
 
 
-def sees(session: Session, finding: Finding) -> bool:
-    """Whether a finding holds though there may be records that the caller may not list."""
+def doubts(finding: Finding) -> tuple[str | None, tuple[str, ...]]:
+    """What a finding says is not there: a name, and types."""
     record = finding.record
     if finding.rule == "ds-without-ns":
-        return session.server.may(record.name, "NS", "list")[0]
-    server = data.server_of(record.kind, record.data)
-    if finding.rule in ("missing-address", "missing-glue") and server:
-        return all(session.server.may(server, kind, "list")[0] for kind in ("A", "AAAA", "CNAME"))
-    return True
+        return record.name, ("NS",)
+    target = data.target_of(record.kind, record.data)
+    if finding.rule in ("missing-address", "missing-glue"):
+        return target, ("A", "AAAA", "CNAME")
+    return (target, tuple(TYPES)) if finding.rule == "dangling-alias" else (None, ())
+
+
+def seen(session: Session, found: list[Finding]) -> list[Finding]:
+    """Those findings that hold though there may be records that the caller may not list. Of what stops nothing the first are asked for."""
+    doubtful = [one for one in found if doubts(one)[0] and not one.stops()]
+    unasked = set(doubtful[ASKED:])
+
+    def holds(finding: Finding) -> bool:
+        name, kinds = doubts(finding)
+        return name is None or all(session.server.may(name, kind, "list")[0] for kind in kinds)
+    return [one for one in found if one not in unasked and holds(one)]
 
 
 def found_by(session: Session, listing: Listing, updates: list[Update]) -> tuple[list[Finding], list[Foreseen]]:
     """What is wrong after the updates and was not before, and what each comes to."""
     after, foreseen = foresee(listing.zone, updates)
     found = rules.new_findings(listing.zone, after)
-    if not listing.is_whole and any(one.rule != "host-name" for one in found):
+    if not listing.is_whole and any(one.rule not in rules.OWN for one in found):
         listing.need_all()
         return found_by(session, listing, updates)
-    return [one for one in found if one.rule in ("host-name", "alias-target", "below-cut") or sees(session, one)], foreseen
+    return seen(session, found), foreseen
 
 
 def check(session: Session, updates: list[Update]) -> tuple[Listing, list[Foreseen]]:

@@ -212,6 +212,11 @@ def server_of(kind: str, data: str) -> str | None:
     return data.rsplit(" ", 1)[-1] if kind in ("NS", "MX", "SRV") else None
 
 
+def target_of(kind: str, data: str) -> str | None:
+    """The name that data point to, of a server or not."""
+    return data.rsplit(" ", 1)[-1] if kind in ("NS", "CNAME", "PTR", "MX", "SRV") else None
+
+
 def names_in(kind: str, data: str) -> list[str]:
     """The names in data."""
     if kind == "TXT":

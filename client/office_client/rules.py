@@ -1,4 +1,4 @@
-"""The first six rules of `zoneoffice check zone`: what the office takes, and other name servers refuse or warn of (docs/formats.md)."""
+"""The rules of `zoneoffice check zone`: what the office takes, and other name servers refuse or warn of (docs/formats.md)."""
 
 import re
 from collections.abc import Iterable
@@ -13,6 +13,14 @@ HOST_LABEL = re.compile(rb"[a-z0-9](?:[a-z0-9-]*[a-z0-9])?")
 PLAIN_HOST = re.compile(r"(?:[a-z0-9](?:[a-z0-9-]*[a-z0-9])?\.)*|\.")
 SPF = {b"_spf", b"_spf_rate", b"_spf_verify"}
 BROWSING = {b"b", b"db", b"r", b"dr", b"lb"}
+DIGITS = {"1": 40, "2": 64, "4": 96}  # of digests by SHA-1, SHA-256 and SHA-384
+UNREAD = re.compile(r"[!#%&'+,:<=>?\[\]^`{|}~]")
+
+# rules by which a record is at fault by itself
+OWN = frozenset(("host-name", "wildcard-ns", "digest-length", "weak-digest", "address-name", "unread-octet"))
+# those for which BIND or Knot does not load a zone, and those of an NS
+STOPPING = frozenset(("host-name", "wildcard-ns", "digest-length", "unread-octet"))
+STOPPING_NS = frozenset(("alias-target", "missing-address", "missing-glue"))
 
 
 class Finding(NamedTuple):
@@ -22,7 +30,7 @@ class Finding(NamedTuple):
 
     def stops(self) -> bool:
         """Whether name servers do not load the zone for it, so that nothing of the zone is published."""
-        return self.rule == "host-name" or self.record.kind == "NS" and self.rule in ("alias-target", "missing-address", "missing-glue")
+        return self.rule in STOPPING or self.record.kind == "NS" and self.rule in STOPPING_NS
 
     def text(self) -> str:
         """What is wrong, in words."""
@@ -85,6 +93,38 @@ def has_host_names(record: Record) -> bool:
     return is_fit_owner(record) and has_fit_names(record) and is_fit_pointer(record)
 
 
+# What is wrong with a record by itself
+
+def is_address_name(name: str) -> bool:
+    """Whether the labels of a name are the octets of an IPv4 address."""
+    labels = names.labels_of(name)
+    return len(labels) == 4 and all(re.fullmatch(rb"[0-9]+", label) and int(label) < 256 for label in labels)
+
+
+def digest_faults(record: Record) -> list[str]:
+    """The rules that the digest of a DS breaks."""
+    if record.kind != "DS":
+        return []
+    digest_type, digest = record.data.split(" ")[2:]
+    weak = ["weak-digest"] if digest_type == "1" else []
+    return weak if len(digest) == DIGITS.get(digest_type, len(digest)) else ["digest-length", *weak]
+
+
+def own_faults(record: Record) -> list[str]:
+    """The rules of `OWN` that a record breaks."""
+    found = digest_faults(record)
+    if not has_host_names(record):
+        found.append("host-name")
+    if record.kind == "NS" and record.name.startswith("*."):
+        found.append("wildcard-ns")
+    target = data.target_of(record.kind, record.data)
+    if target and is_address_name(target):
+        found.append("address-name")
+    if any(map(UNREAD.search, [record.name, *data.names_in(record.kind, record.data)])):
+        found.append("unread-octet")
+    return found
+
+
 # What other records make of one
 
 class Survey:
@@ -137,11 +177,18 @@ class Survey:
         answers = self.answering(server)
         return "alias-target" if has_alias(answers) else None if has_address(answers) else "missing-address"
 
+    def dangles(self, record: Record) -> bool:
+        """Whether a record is an alias of nothing."""
+        target = record.data
+        if record.kind != "CNAME" or not names.is_within(target, self.zone.origin):
+            return False
+        return not self.is_delegated(target) and not self.is_occluded(record) and not self.answering(target)
+
     def faults(self, record: Record) -> list[str]:
         """The rules that a record breaks, in their order."""
-        found = {self.broken(record)}
-        if not has_host_names(record):
-            found.add("host-name")
+        found = {self.broken(record), *own_faults(record)}
+        if self.dangles(record):
+            found.add("dangling-alias")
         if self.is_occluded(record) and not (record.kind in ("A", "AAAA") and record.name in self.servers):
             found.add("below-cut")
         if record.kind == "DS" and not self.zone.set_of(record.name, "NS"):

@@ -38,6 +38,12 @@ RULES = {
     "missing-glue": ("its server is in a delegated zone and has no address", "RFC 1034 section 4.2.1, RFC 9471 section 2"),
     "below-cut": ("a delegation hides it, and it is not glue", "RFC 1034 section 4.2.1"),
     "ds-without-ns": ("it is a DS at a name without NS", "RFC 4034 section 5"),
+    "wildcard-ns": ("it is an NS at a wildcard", "RFC 4592 section 4.2"),
+    "digest-length": ("its digest has not the length of its type", "RFC 4034 section 5.1, RFC 4509 section 2.1, RFC 6605 section 2"),
+    "weak-digest": ("its digest is of SHA-1", "RFC 8624 section 3.3"),
+    "address-name": ("the name to which it points is an IPv4 address", "RFC 1035 section 3.3, RFC 1123 section 2.1"),
+    "unread-octet": ("a name in it has one of ! # % & ' + , : < = > ? [ ] ^ ` { | } ~, which Knot does not read", "RFC 1035 section 5.1"),
+    "dangling-alias": ("the target of the alias is in this zone and has no records there", "RFC 1034 section 3.6.2"),
 }
 
 PREREQUISITES_MAX, OPERATIONS_MAX, OCTETS_MAX = 64, 256, 65536

@@ -102,21 +102,28 @@ class Differences(unittest.TestCase):
 
 
 class Rules(unittest.TestCase):
-    """The six rules."""
+    """The rules of `check zone`."""
 
     def test_each(self) -> None:
         """A record that breaks each of them."""
         for more, rule in (("a_b.example.org. 60 IN A 192.0.2.1", "host-name"), ("a.example.org. 60 IN MX 1 ftp.example.org.", "alias-target"),
                            ("a.example.org. 60 IN SRV 0 1 5 none.example.org.", "missing-address"), ("sub.example.org. 60 IN NS ns.sub.example.org.", "missing-glue"),
                            ("sub.example.org. 60 IN NS out.example.net.\nx.sub.example.org. 60 IN TXT \"x\"", "below-cut"),
-                           ("sub.example.org. 60 IN DS 1 8 2 ab", "ds-without-ns")):
+                           (f"sub.example.org. 60 IN DS 1 8 2 {'ab' * 32}", "ds-without-ns"), ("*.sub.example.org. 60 IN NS out.example.net.", "wildcard-ns"),
+                           ("sub.example.org. 60 IN NS out.example.net.\nsub.example.org. 60 IN DS 1 8 2 ab", "digest-length"),
+                           (f"sub.example.org. 60 IN NS out.example.net.\nsub.example.org. 60 IN DS 1 8 1 {'ab' * 20}", "weak-digest"),
+                           ("a.example.org. 60 IN MX 1 192.0.2.1.", "address-name"), ("a#b.example.org. 60 IN TXT \"x\"", "unread-octet"),
+                           ("a.example.org. 60 IN CNAME none.example.org.", "dangling-alias")):
             self.assertEqual([one.rule for one in rules.new_findings(zone_of(BASE), zone_of(f"{BASE}\n{more}"))], [rule])
 
     def test_what_is_right(self) -> None:
         """Names that are no hosts' and need not be, wildcards, glue."""
         fine = ["_sip._tcp.example.org. 60 IN SRV 0 1 5 www.example.org.", "*.example.org. 60 IN A 192.0.2.1", "_dmarc.example.org. 60 IN TXT \"x\"",
                 "1.2.0.192.in-addr.arpa. 60 IN PTR www.example.org.", "gc._msdcs.example.org. 60 IN A 192.0.2.1",
-                "sub.example.org. 60 IN NS ns.sub.example.org.\nns.sub.example.org. 60 IN A 192.0.2.1"]
+                "sub.example.org. 60 IN NS ns.sub.example.org.\nns.sub.example.org. 60 IN A 192.0.2.1",
+                f"sub.example.org. 60 IN NS out.example.net.\nsub.example.org. 60 IN DS 1 8 4 {'ab' * 48}\nsub.example.org. 60 IN DS 1 8 9 ab",
+                "a.example.org. 60 IN MX 1 192.0.2.256.", "a/b\\;c.example.org. 60 IN TXT \"x#y\"",
+                "a.example.org. 60 IN CNAME b.w.example.org.\n*.w.example.org. 60 IN TXT \"x\""]
         for more in fine:
             self.assertEqual(rules.new_findings(zone_of(BASE), zone_of(f"{BASE}\n{more}")), [], more)
 

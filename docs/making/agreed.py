@@ -1,6 +1,7 @@
 """What is written by hand and has to agree with the sources: each function gives a line for whatever does not."""
 
 import glob
+import json
 import os
 import re
 from itertools import count
@@ -23,21 +24,28 @@ def differing(path, what, found, wanted):
 # Record types, actions, defaults
 
 def rules_of_page():
-    """The rules for zones that the page knows, in the program's order: those of a record by itself or of the names of a zone."""
-    found = re.search(r"^export const RULES = \[(.*?)\];", read("web", "rules.js"), re.M)
+    """The rules for zones that the page knows."""
+    found = re.search(r"^export const RULES = \[(.*?)\];", read("web", "rules.js"), re.M | re.S)
     return re.findall(r'"([\w-]+)"', found[1] if found else "")
 
 
 def keys_of_page():
-    """What the page says, in each language, of each type and action, and of each rule for zones that it knows."""
-    known = rules_of_page()
-    yield from differing("web/rules.js", "the rules for zones", known, [rule for rule in sources.rules() if rule in known])
+    """What the page says, in each language, of each type and action, and of each rule for zones."""
+    yield from differing("web/rules.js", "the rules for zones", rules_of_page(), sources.rules())
     tables = sorted(glob.glob(os.path.join(TOP, "web", "text-*.js")))
     for path in [os.path.relpath(table, TOP) for table in tables]:
         keys = re.findall(r'^    "?([\w -]+?)"?:', read(*path.split("/")), re.M)
         for name, wanted in ("form", sources.type_names()), ("what", sources.actions()), ("action", sources.actions()):
             yield from differing(path, f"the words of {name}", [key.split()[1] for key in keys if key.startswith(f"{name} ")], wanted)
-        yield from differing(path, "the rules for zones", [key for key in keys if key in sources.rules()], known)
+        yield from differing(path, "the rules for zones", [key for key in keys if re.fullmatch("[a-z]+-[a-z-]+", key)], sources.rules())
+
+
+def rules_of_client():
+    """The rules for zones that the client knows, and those that its reports may have."""
+    found = re.search(r"^RULES = \{(.*?)^\}", read("client", "office_client", "tables.py"), re.M | re.S)
+    yield from differing("client/office_client/tables.py", "the rules for zones", re.findall(r'^    "([a-z-]+)": \(', found[1] if found else "", re.M), sources.rules())
+    report = json.loads(read("client", "report.schema.json"))
+    yield from differing("client/report.schema.json", "the rules for zones", report["properties"]["findings"]["items"]["properties"]["rule"]["enum"], sources.rules())
 
 
 def stated():
@@ -52,9 +60,9 @@ def stated():
     for name, text in {"action": actions, **seconds}.items():
         if not helps.get(name, "").endswith(text):
             yield f"{sources.ARGUMENTS}: the help of {name} does not say: {text}"
-    for rule in re.findall(r"[a-z]+-[a-z]+", helps.get("only", "")):
-        if rule not in sources.rules():
-            yield f"{sources.ARGUMENTS}: the help of only names {rule}, and the sources do not"
+    for word in re.findall("[a-z]+-[a-z-]+", helps["only"]):
+        if word not in sources.rules():
+            yield f"{sources.ARGUMENTS}: the help of only says {word}, which is not a rule for zones"
 
 
 def defaults_of_formats():
@@ -164,5 +172,5 @@ def lines_to_read():
                 yield f"{path}: the top contracts reach {wanted} lines of definitions, and the page says {found}"
 
 
-AGREEMENTS = (keys_of_page, stated, defaults_of_formats, commands_of_page, usages_of_formats, rules_of_formats, chapters_of_formats,
+AGREEMENTS = (keys_of_page, rules_of_client, stated, defaults_of_formats, commands_of_page, usages_of_formats, rules_of_formats, chapters_of_formats,
               routes_of_openapi, routes_of_api, numbers_of_openapi, lines_to_read, proved.missing_chapters)
