@@ -28,3 +28,4 @@ pub mod CallLemmas
 pub mod AnswerLemmas
 pub mod BookmarkLemmas
 mod SeenLemmas
+mod PassedLemmas

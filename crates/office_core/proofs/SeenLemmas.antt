@@ -41,7 +41,7 @@ module _ (g : GrantsOf) (lists : g.action ≡ action.List) where
   abbrev caller : List ℕ
   caller = g.caller
 
-  as_listed : (r : Record) → may_list rules caller r ≡ includes g r.owner (type_of r.rdata)
+  pub as_listed : (r : Record) → may_list rules caller r ≡ includes g r.owner (type_of r.rdata)
   as_listed r = ap (λ (a : Action). is_granted (decision (record { caller = caller; name = r.owner; record_type = type_of r.rdata; action = a }) rules)) (sym lists)
 
   none_listed : (rs : List Record) → AllByRecursion (λ r. includes g r.owner (type_of r.rdata) ≡ false) rs → listed rules caller rs ≡ []
@@ -59,7 +59,7 @@ module _ (g : GrantsOf) (lists : g.action ≡ action.List) where
   none_seen [] hidden = refl
   none_seen (c ∷ cs) hidden = ap (λ (l : List ChangeOf). l ++ seen rules caller cs) (none_of_it c hidden.0) ∙ none_seen cs hidden.1
 
-  seen_both : (cs : List ChangeOf) (n m : ℕ) → seen rules caller (take (n + m) cs) ≡ seen rules caller (take n cs) ++ seen rules caller (take m (drop n cs))
+  pub seen_both : (cs : List ChangeOf) (n m : ℕ) → seen rules caller (take (n + m) cs) ≡ seen rules caller (take n cs) ++ seen rules caller (take m (drop n cs))
   seen_both cs n m = ap (λ (l : List ChangeOf). seen rules caller l) (take-add n m cs) ∙ flat_map-append (λ (c : ChangeOf). if_some (seen_of rules caller c)) (take n cs) (take m (drop n cs))
 
   -- of the changes so many were looked at, so many more are hidden, and of those after at most so many are a piece

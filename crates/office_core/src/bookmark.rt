@@ -1,6 +1,6 @@
 //! Where callers have read the changes of zones.
 
-ghost use Rattle.std.specs.Prelude.{◌≡◌, ◌+◌, List, Some, not, IfOk, IfSome};
+ghost use Rattle.std.specs.Prelude.{◌≡◌, ◌⊎◌, ◌+◌, List, Some, not, IfOk, IfSome};
 ghost use Rattle.std.specs.List.{filter};
 ghost use Rattle.grant_policy.specs.declared.rule.Rule.{Rule};
 ghost use Rattle.zone_core.specs.Changes.{ChangeOf};
@@ -9,6 +9,7 @@ ghost use Rattle.office_core.specs.Bookmarks.{AreBookmarks, IsBookmark, IsPoint,
 
 use dns_names::Name;
 use grant_policy::Identifier;
+use office_model::Passed;
 use std::alloc::{AllocError, Global};
 
 /// A point in the changes of a zone, by what comes before it.
@@ -31,6 +32,18 @@ impl Point {
     {
         let seen = self.seen.checked_add(u32::try_from(seen).ok()?)?;
         Some(Point { read, seen })
+    }
+
+    /// The point past changes that were passed over; this one, where numbers of 32 bits cannot say it.
+    pub(crate) fn past(self, passed: Passed) -> Point
+        ensures { ((result.read ≡ self.read + passed.read) × (result.seen ≡ self.seen + passed.seen)) ⊎ (result ≡ self) }
+    {
+        let read = self.read.checked_add(passed.read);
+        let seen = self.seen.checked_add(passed.seen);
+        match (read, seen) {
+            (Some(read), Some(seen)) => Point { read, seen },
+            _ => self,
+        }
     }
 }
 

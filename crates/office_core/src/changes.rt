@@ -4,14 +4,14 @@ ghost use Rattle.std.specs.Prelude.{◌≡◌, ◌+◌, ◌<◌, ◌≤◌, ◌+
 ghost use Rattle.std.specs.List.{filter};
 ghost use Rattle.zone_core.specs.Changes.{change_in};
 ghost use Rattle.office_model.specs.Replies.{numbered_of, seen_in};
-ghost use Rattle.office_model.specs.States.{State};
+ghost use Rattle.office_model.specs.States.{Held, State};
 ghost use Rattle.office_model.specs.Tables.{ReadsOnly};
 ghost use Rattle.office_core.specs.Machine.{unchanged, of_zone, changes_reply, if_some, listed, seen, seen_of, numbered};
 ghost use Rattle.office_core.specs.Steps.{IsAnswer, Takes};
-ghost use Rattle.office_core.specs.Bookmarks.{AreBookmarks};
+ghost use Rattle.office_core.specs.Bookmarks.{AreBookmarks, IsStart};
 ghost use Rattle.office_core.specs.Seen.{IsNext, IsSeenBehind};
 
-use crate::bookmark::Bookmarks;
+use crate::bookmark::{Bookmarks, Point};
 use dns_data::Record;
 use dns_names::Name;
 use grant_policy::{Action, Grants, Identifier, Policy};
@@ -200,8 +200,40 @@ fn numbered_from(
     Ok(all)
 }
 
+/// How many changes that a caller sees may be passed over from a point on, so that one with a number from one on is not.
+fn most_passed(began: Point, from: u32) -> u32
+    ensures { 0 < result → began.seen + result < from }
+{
+    from.saturating_sub(began.seen).saturating_sub(1)
+}
+
+/// A point from which on all changes with a number from one on are found: another such point, or one after it, as far as the table
+/// remembers what the changes between them touch.
+fn passed_on<T: ZoneTable>(
+    table: &mut T,
+    grants: &mut Grants<'_>,
+    origin: &Name,
+    began: Point,
+    from: u32,
+) -> Result<Point, TableFault>
+    requires { grants.old.action ≡ Action.List }
+    ensures start { T.is_honest table.new
+        → IfOk result
+        (λ point. (s : State) (held : Held) → T.holds table.old s → s.zones origin.now ≡ Some held
+        → IsStart grants.old.rules grants.old.caller from held.changes began → IsStart grants.old.rules grants.old.caller from held.changes point) }
+    ensures same { grants.new ≡ grants.old }
+    ensures reads { ReadsOnly T.holds T.is_honest T.leaves T.failures table.old table.new result }
+{
+    let most = most_passed(began, from);
+    if most == 0 {
+        return Ok(began);
+    }
+    let passed = table.pass(origin, began.read, most, grants)?;
+    Ok(began.past(passed))
+}
+
 /// What the caller sees of the changes of a zone, from a number on. Only the changes after its bookmark are read, if it has one that
-/// is before that number; and where they end is its bookmark from now on.
+/// is before that number, and of these only those after what the table passes over; and where they end is its bookmark from now on.
 pub(crate) fn changes<T: ZoneTable>(
     alloc: Global,
     table: &mut T,
@@ -220,6 +252,7 @@ pub(crate) fn changes<T: ZoneTable>(
 {
     let began = bookmarks.start(caller, origin, from);
     let mut grants = Grants::new(alloc, policy, caller, Action::List);
+    let began = passed_on(table, &mut grants, origin, began, from)?;
     let Some(seen) = seen_behind(alloc, table, &mut grants, origin, began.read)? else {
         return Ok(Reply::NotAuth);
     };

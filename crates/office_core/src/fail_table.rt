@@ -8,7 +8,7 @@ use crate::memory::MemTable;
 use dns_data::Record;
 use dns_names::Name;
 use grant_policy::{Grants, Identifier};
-use office_model::{Addition, Ahead, Receipt, TableFault, ZoneTable};
+use office_model::{Addition, Ahead, Passed, Receipt, TableFault, ZoneTable};
 use std::alloc::Global;
 use std::sync::ledger::{Blank, Book, Ledger, Share};
 use zone_core::{Change, Zone};
@@ -148,6 +148,17 @@ impl<L: Ledger> ZoneTable for FailTable<L> {
     ) -> Result<Ahead, TableFault> {
         self.call(TableCall::Changes)?;
         self.table.ahead(origin, count, grants)
+    }
+
+    fn pass(
+        &mut self,
+        origin: &Name,
+        count: u32,
+        most: u32,
+        grants: &mut Grants<'_>,
+    ) -> Result<Passed, TableFault> {
+        self.call(TableCall::Changes)?;
+        self.table.pass(origin, count, most, grants)
     }
 
     fn commit(&mut self, alloc: Global, addition: Addition) -> Result<(), TableFault> {

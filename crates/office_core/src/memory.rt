@@ -15,7 +15,7 @@ ghost use Rattle.office_core.specs.Memory.{state_of, is_of, receipt_in, IsPutAt,
 use dns_data::Record;
 use dns_names::Name;
 use grant_policy::{Grants, Identifier};
-use office_model::{Addition, Ahead, Receipt, TableFault, ZoneTable, with_included};
+use office_model::{Addition, Ahead, Passed, Receipt, TableFault, ZoneTable, with_included};
 use std::alloc::{AllocError, Global};
 use std::collections::BTreeMap;
 use std::marker::Model;
@@ -271,6 +271,16 @@ impl ZoneTable for MemTable {
         _grants: &mut Grants<'_>,
     ) -> Result<Ahead, TableFault> {
         Ok(Ahead::UNKNOWN)
+    }
+
+    fn pass(
+        &mut self,
+        _origin: &Name,
+        _count: u32,
+        _most: u32,
+        _grants: &mut Grants<'_>,
+    ) -> Result<Passed, TableFault> {
+        Ok(Passed::NONE)
     }
 
     fn commit(&mut self, alloc: Global, addition: Addition) -> Result<(), TableFault> {

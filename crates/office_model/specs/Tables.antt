@@ -1,11 +1,12 @@
 -- What a table is asked to add, and what it tells of its calls.
-use Rattle.std.specs.Prelude.{◌≡◌, ℕ, ◌+◌, ◌≤◌, List, [], ◌∷◌, ◌++◌, length, take, false, Option, Some, None, option_map, Result, Ok, Err, OnOk}
-use Rattle.std.specs.List.{AllByRecursion, filter}
+use Rattle.std.specs.Prelude.{◌≡◌, ℕ, ◌+◌, ◌≤◌, List, [], ◌∷◌, ◌++◌, length, take, Bool, false, not, Option, Some, None, option_map, Result, Ok, Err, OnOk}
+use Rattle.std.specs.List.{AllByRecursion, filter, list_all}
 use Rattle.dns_data.specs.declared.record.Record.{Record}
 use Rattle.dns_data.specs.Rdata.{type_of}
 use Rattle.grant_policy.specs.Grants.{GrantsOf, includes}
 use Rattle.zone_core.specs.Changes.{ChangeOf, FitsIn, change_in, changed, is_empty}
 use Rattle.zone_core.specs.Zones.{IsZone}
+use Rattle.office_model.specs.declared.passed.Passed.{Passed}
 use Rattle.office_model.specs.declared.table_fault.TableFault.{TableFault}
 use Rattle.office_model.specs.declared.table_fault.TableFault.TheVariants.{Store, NoMemory}
 use Rattle.office_model.specs.declared.receipt.Receipt.{Receipt}
@@ -70,6 +71,20 @@ IsHidden grants c = AllByRecursion (λ r. includes grants r.owner (type_of r.rda
 pub record AreHidden (grants : GrantsOf) (cs : List ChangeOf) (count : ℕ) : Type 0 where
   pub there : count ≤ length cs
   pub hidden : AllByRecursion (IsHidden grants) (take count cs)
+
+-- whether grants include no record of a change
+abbrev pub hides : GrantsOf → ChangeOf → Bool
+hides grants c = list_all (λ r. not (includes grants r.owner (type_of r.rdata))) (c.removed ++ c.added)
+
+-- those of some changes of which grants include a record
+abbrev pub shown : GrantsOf → List ChangeOf → List ChangeOf
+shown grants cs = filter (λ c. not (hides grants c)) cs
+
+-- So many of some changes were passed over, the first ones; and so many of these, at most a number, have a record that grants include.
+pub record ArePassed (grants : GrantsOf) (cs : List ChangeOf) (most : ℕ) (passed : Passed) : Type 0 where
+  pub there : passed.read ≤ length cs
+  pub seen : passed.seen ≡ length (shown grants (take passed.read cs))
+  pub few : passed.seen ≤ most
 
 -- ---- the count of failures
 

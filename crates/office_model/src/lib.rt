@@ -4,6 +4,7 @@
 
 mod ahead;
 mod included_records;
+mod passed;
 mod receipt;
 mod record_lines;
 mod reply;
@@ -14,6 +15,7 @@ mod table_fault;
 
 pub use ahead::Ahead;
 pub use included_records::{included, with_included};
+pub use passed::Passed;
 pub use receipt::{Addition, Receipt};
 pub use record_lines::{RecordLines, first_line};
 pub use reply::{NumberedChange, Reading, Reply, Right, SeenChange, UpdateReply};

@@ -6,9 +6,10 @@ ghost use Rattle.dns_data.specs.declared.record.Record.{Record};
 ghost use Rattle.zone_core.specs.Sets.{InOrder};
 ghost use Rattle.zone_core.specs.Changes.{change_in};
 ghost use Rattle.office_model.specs.States.{Held, State, AreZones, AreReceipts, zone_at, part_at, subtree_at, changes_at};
-ghost use Rattle.office_model.specs.Tables.{AreHidden, Counts, Fits, ReadsOnly, Settles, addition_in, committed, included};
+ghost use Rattle.office_model.specs.Tables.{AreHidden, ArePassed, Counts, Fits, ReadsOnly, Settles, addition_in, committed, included};
 
 use crate::ahead::Ahead;
+use crate::passed::Passed;
 use crate::receipt::{Addition, Receipt};
 use crate::table_fault::TableFault;
 use dns_data::Record;
@@ -118,6 +119,22 @@ pub trait ZoneTable {
             → IfOk result
             (λ ahead. (s : State) (held : Held) → holds self.old s → s.zones origin.now ≡ Some held
             → AreHidden grants.old (drop count held.changes) ahead.hidden) }
+        ensures same { grants.new ≡ grants.old }
+        ensures reads { ReadsOnly holds is_honest leaves failures self.old self.new result };
+
+    /// Passes over the next changes of a zone after the first ones, so many, as far as the table remembers what they touch: up to the first
+    /// of which grants include a record after so many of such. It may answer without its store.
+    fn pass(
+        &mut self,
+        origin: &Name,
+        count: u32,
+        most: u32,
+        grants: &mut Grants<'_>,
+    ) -> Result<Passed, TableFault>
+        ensures passed { is_honest self.new
+            → IfOk result
+            (λ passed. (s : State) (held : Held) → holds self.old s → s.zones origin.now ≡ Some held
+            → ArePassed grants.old (drop count held.changes) most passed) }
         ensures same { grants.new ≡ grants.old }
         ensures reads { ReadsOnly holds is_honest leaves failures self.old self.new result };
 

@@ -1,6 +1,7 @@
 -- What is remembered of the changes of a zone, and the state that the connection holds.
-use Rattle.std.proofs.Common.{◌≡◌, ℕ, zero, suc, ◌+◌, ◌<◌, get_or, append_assoc, cond, nat_lt, ◌≤◌, List, [], ◌∷◌, ◌++◌, length, map, take, drop, Bool, true, false, not, nat_le, Option, Some, None, pos, option_map, Result, Ok, Err, OnOk, IsTrue, IsPermutation, refl, sym, ap, subst, ◌∙◌, arith}
+use Rattle.std.proofs.Common.{◌≡◌, ℕ, zero, suc, ◌+◌, ◌<◌, get_or, append_assoc, cond, nat_lt, ◌≤◌, List, [], ◌∷◌, ◌++◌, length, map, take, drop, Bool, true, false, not, ◌&&◌, nat_le, Option, Some, None, pos, option_map, Result, Ok, Err, OnOk, IsTrue, IsPermutation, refl, sym, ap, subst, ◌∙◌, arith}
 use Rattle.std.proofs.Math.Bool.{Bool-set}
+use Rattle.std.proofs.Props.{props}
 use Rattle.std.proofs.Math.Logic.{∥∥₁_map, ∥∥₁_elim}
 use Rattle.std.proofs.lemmas.Bool.{and_from, and_parts}
 use Rattle.std.proofs.lemmas.List.{length-map, take_more}
@@ -13,7 +14,8 @@ use Rattle.grant_policy.specs.Grants.{GrantsOf, includes}
 use Rattle.zone_core.specs.declared.change.Change.{Change}
 use Rattle.zone_core.specs.Changes.{ChangeOf, change_in}
 use Rattle.office_model.specs.States.{Held, State, changes_at, zone_at, zone_held}
-use Rattle.office_model.specs.Tables.{AdditionOf, AreHidden, IsHidden, committed}
+use Rattle.office_model.specs.declared.passed.Passed.{Passed}
+use Rattle.office_model.specs.Tables.{AdditionOf, AreHidden, ArePassed, IsHidden, committed, shown}
 use Rattle.store_sql.specs.Tables.{changes_tree, layout_in, stored_change}
 use Rattle.store_sql.proofs.Selections.{read_as, one_stored_change}
 use Rattle.store_rows.proofs.LaterChangeLaws.{histories_are_one}
@@ -116,6 +118,20 @@ told_of_history conn history o g count n fits clean up hidden s held holds e =
     let mine = one_history conn up it.0 s it.1 holds o held e in
     subst (λ (cs : List ChangeOf). are_hidden g (drop count cs) n ≡ true) mine.2 (hidden it.0 mine.0 mine.1 it.2)))
 
+-- what is passed over by what is remembered is so in each state that an open connection holds
+pub told_of_passed : (conn : Shown) (history : Option ZoneHistory) (o : Labels) (g : GrantsOf) (count most : ℕ) (passed : Passed) → FitsHistory conn history → HasCleanDisk conn → IsTrue conn.is_open
+    → ((s : State) (held : Held) → s.zones o ≡ Some held → Remembers s history → ArePassed g (drop count held.changes) most passed)
+    → (s : State) (held : Held) → HoldsState conn s → s.zones o ≡ Some held → ArePassed g (drop count held.changes) most passed
+told_of_passed conn history o g count most passed fits clean up are s held holds e =
+    ∥∥₁_elim (fits.held clean) (Prim.hlevel props) (λ it.
+    let mine = one_history conn up it.0 s it.1 holds o held e in
+    subst (λ (cs : List ChangeOf). ArePassed g (drop count cs) most passed) mine.2 (are it.0 mine.0 mine.1 it.2))
+
+-- nothing is passed over of any changes
+pub none_passed : (g : GrantsOf) (cs : List ChangeOf) (most : ℕ) (passed : Passed) → passed.read ≡ 0 → passed.seen ≡ 0 → ArePassed g cs most passed
+none_passed g cs most passed read seen =
+    record { there = omega (arith, read); seen = seen ∙ ap (λ (n : ℕ). length (shown g (take n cs))) (sym read); few = omega (arith, seen) }
+
 -- none are hidden of none
 pub none_hidden : (g : GrantsOf) (cs : List ChangeOf) (n : ℕ) → n ≡ 0 → AreHidden g cs n
 none_hidden g cs n none = subst (AreHidden g cs) (sym none) (record { there = omega arith; hidden = tt })
@@ -146,12 +162,32 @@ gathered_more xs i x low is = ap gathered (take_more xs i x low ∙ ap (λ (y : 
 all_both : (test : Record → Bool) (xs ys : List Record) → list_all test xs ≡ true → list_all test ys ≡ true → list_all test (xs ++ ys) ≡ true
 all_both test xs ys one two = list_all-append test xs ys ∙ and_from (list_all test xs) (list_all test ys) one two
 
+last_of_first : (a b c : Bool) → ((a && (b && true)) && c) ≡ ((a && c) && b)
+last_of_first true true true = refl
+last_of_first true true false = refl
+last_of_first true false true = refl
+last_of_first true false false = refl
+last_of_first false b c = refl
+
+last_of_second : (a b c : Bool) → (a && (c && (b && true))) ≡ ((a && c) && b)
+last_of_second true true true = refl
+last_of_second true true false = refl
+last_of_second true false true = refl
+last_of_second true false false = refl
+last_of_second false b c = refl
+
 -- a change has one more record on a side
 also : (c : ChangeOf) (s : Side) (r : Record) → HasAlso r c (with_record c s r)
-also c Removed r test here before =
-    let parts = and_parts (list_all test c.removed) (list_all test c.added) (sym (list_all-append test c.removed c.added) ∙ before) in
-    all_both test (c.removed ++ r ∷ []) c.added (all_both test c.removed (r ∷ []) parts.0 (and_from (test r) true here refl)) parts.1
-also c Added r test here before = ap (list_all test) (sym (append_assoc c.removed c.added (r ∷ []))) ∙ all_both test (c.removed ++ c.added) (r ∷ []) before (and_from (test r) true here refl)
+also c Removed r test =
+    list_all-append test (c.removed ++ r ∷ []) c.added
+    ∙ ap (λ b. b && list_all test c.added) (list_all-append test c.removed (r ∷ []))
+    ∙ last_of_first (list_all test c.removed) (test r) (list_all test c.added)
+    ∙ ap (λ b. b && test r) (sym (list_all-append test c.removed c.added))
+also c Added r test =
+    list_all-append test c.removed (c.added ++ r ∷ [])
+    ∙ ap (λ b. list_all test c.removed && b) (list_all-append test c.added (r ∷ []))
+    ∙ last_of_second (list_all test c.removed) (test r) (list_all test c.added)
+    ∙ ap (λ b. b && test r) (sym (list_all-append test c.removed c.added))
 
 -- the last change has one more record, if there is a change
 module _ (mid new : ZoneHistory) (s : Side) (r : Record) (last : (cs : List ChangeOf) (c more : ChangeOf) → KnowsAll mid (cs ++ c ∷ []) → HasAlso r c more → KnowsAll new (cs ++ more ∷ [])) (none : KnowsAll mid [] → KnowsAll new []) where

@@ -36,12 +36,13 @@ use crate::zones::{import, put_zone, replace, take_place};
 use dns_data::Record;
 use dns_names::Name;
 use grant_policy::{Grants, Identifier};
-use office_model::{Addition, Ahead, Receipt, TableFault, ZoneTable};
+use office_model::{Addition, Ahead, Passed, Receipt, TableFault, ZoneTable};
 use sqlite::{Alter, Connection};
 use std::alloc::Global;
 use std::sync::ledger::{Blank, Book, Ledger, Share};
 use store_cache::{
-    CachedZone, Shelf, ZoneHistory, ahead_in, cached_of, forget_on, remember, turn_on, turn_to,
+    CachedZone, Shelf, ZoneHistory, ahead_in, cached_of, forget_on, passed_in, remember, turn_on,
+    turn_to,
 };
 use store_faults::StoreFault;
 use store_rows::KeptReceipt;
@@ -587,6 +588,25 @@ impl<S: Alter + Drop, L: Ledger> ZoneTable for SqlTable<S, L> {
         // a connection that is shut tells nothing of what is held
         match check_open(&mut self.conn) {
             Ok(()) => Ok(ahead),
+            Err(fault) => Err(self.fail(fault)),
+        }
+    }
+
+    fn pass(
+        &mut self,
+        origin: &Name,
+        count: u32,
+        most: u32,
+        grants: &mut Grants<'_>,
+    ) -> Result<Passed, TableFault> {
+        turn_on(&mut self.history, &mut self.histories, origin);
+        let passed = passed_in(&self.history, origin, count, most, grants);
+        if passed.read == 0 {
+            return Ok(Passed::NONE);
+        }
+        // a connection that is shut tells nothing of what is held
+        match check_open(&mut self.conn) {
+            Ok(()) => Ok(passed),
             Err(fault) => Err(self.fail(fault)),
         }
     }

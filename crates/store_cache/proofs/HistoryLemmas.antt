@@ -1,7 +1,8 @@
 -- What is remembered of the changes of a zone.
-use Rattle.std.proofs.Common.{◌≡◌, ℕ, zero, suc, ◌+◌, ◌<◌, ◌≤◌, List, [], ◌∷◌, ◌++◌, length, length-append, get_or, map, take, drop, Bool, true, false, not, nat_le, cond, Option, Some, None, option_map, Result, Ok, Err, OnErr, IsTrue, refl, sym, ap, subst, ◌∙◌, arith}
+use Rattle.std.proofs.Common.{◌≡◌, ◌⊎◌, inl, inr, ℕ, zero, suc, ◌+◌, ◌<◌, ◌≤◌, List, [], ◌∷◌, ◌++◌, length, length-append, get_or, map, take, drop, Bool, true, false, not, ◌&&◌, nat_le, cond, Option, Some, None, option_map, Result, Ok, Err, OnErr, IsTrue, refl, sym, ap, subst, ◌∙◌, arith}
+use Rattle.std.proofs.Math.Bool.{and_assoc}
 use Rattle.std.proofs.lemmas.Bool.{and_parts, and_from}
-use Rattle.std.specs.List.{list_all}
+use Rattle.std.specs.List.{filter, list_all}
 use Rattle.std.specs.Result.{is_err, is_ok}
 use Rattle.std.proofs.lemmas.List.Folds.{list_all_more}
 use Rattle.dns_names.specs.Order.{same_name}
@@ -14,7 +15,8 @@ use Rattle.zone_core.specs.declared.change.Change.{Change}
 use Rattle.zone_core.specs.Changes.{ChangeOf, change_in}
 use Rattle.zone_core.proofs.SetLemmas.{by_cases}
 use Rattle.office_model.specs.States.{Held, State, keep}
-use Rattle.office_model.specs.Tables.{AdditionOf, committed, held_with, with_change_of}
+use Rattle.office_model.specs.declared.passed.Passed.{Passed}
+use Rattle.office_model.specs.Tables.{AdditionOf, ArePassed, committed, held_with, shown, with_change_of}
 use Rattle.store_cache.specs.declared.history.Touched.{Touched}
 use Rattle.store_cache.specs.declared.history.ZoneHistory.{ZoneHistory}
 use Rattle.store_cache.specs.History.{AreTouched, Covers, Remembers, are_hidden, hides, hides_each, includes_none}
@@ -47,21 +49,59 @@ module _ (o : Labels) where
   touched_push (u ∷ ts) [] t c rest are next covers = absurd are
   touched_push (u ∷ ts) (d ∷ cs) t c rest are next covers = (are.0, touched_push ts cs t c rest are.1 next covers)
 
-  -- of those of which nothing is included, no record is
-  pub touched_hidden : (g : GrantsOf) (n : ℕ) (ts : List Touched) (cs : List ChangeOf) → includes g o Soa ≡ false → AreTouched o ts cs → n ≤ length ts → IsTrue (list_all (λ t. includes_none g t.points.items) (take n ts))
-      → IsTrue (are_hidden g cs n)
-  touched_hidden g n ts cs soa are few none = and_from (nat_le n (length cs)) (list_all (hides g) (take n cs)) (le_test n (length cs) (omega (arith, few, touched_length ts cs are))) (each n ts cs are few none)
+  -- of those that grants leave out, they include no record
+  pub touched_hidden : (g : GrantsOf) (sees : Bool) (n : ℕ) (ts : List Touched) (cs : List ChangeOf) → sees ≡ includes g o Soa → AreTouched o ts cs → n ≤ length ts
+      → IsTrue (list_all (λ t. not (t.soa && sees) && includes_none g t.points.items) (take n ts)) → IsTrue (are_hidden g cs n)
+  touched_hidden g sees n ts cs soa are few none = and_from (nat_le n (length cs)) (list_all (hides g) (take n cs)) (le_test n (length cs) (omega (arith, few, touched_length ts cs are))) (each n ts cs are few none)
     where
+      test : Touched → Bool
+      test t = not (t.soa && sees) && includes_none g t.points.items
+
       le_test : (a b : ℕ) → a ≤ b → nat_le a b ≡ true
       le_test a b h = grind (arith, h)
 
-      each : (n : ℕ) (ts : List Touched) (cs : List ChangeOf) → AreTouched o ts cs → n ≤ length ts → IsTrue (list_all (λ t. includes_none g t.points.items) (take n ts)) → IsTrue (list_all (hides g) (take n cs))
+      each : (n : ℕ) (ts : List Touched) (cs : List ChangeOf) → AreTouched o ts cs → n ≤ length ts → IsTrue (list_all test (take n ts)) → IsTrue (list_all (hides g) (take n cs))
       each zero ts cs are few none = refl
       each (suc n) [] cs are few none = absurd (omega arith)
       each (suc n) (t ∷ ts) [] are few none = absurd are
       each (suc n) (t ∷ ts) (c ∷ cs) are few none =
-          let both = and_parts (includes_none g t.points.items) (list_all (λ t. includes_none g t.points.items) (take n ts)) none in
-          and_from (hides g c) (list_all (hides g) (take n cs)) (are.0 g soa both.0) (each n ts cs are.1 (omega arith) both.1)
+          let both = and_parts (test t) (list_all test (take n ts)) none in
+          and_from (hides g c) (list_all (hides g) (take n cs)) (are.0 g ∙ ap (λ b. not (t.soa && b) && includes_none g t.points.items) (sym soa) ∙ both.0) (each n ts cs are.1 (omega arith) both.1)
+
+  -- as many of them are seen as are not left out
+  pub touched_shown : (g : GrantsOf) (sees : Bool) (n : ℕ) (ts : List Touched) (cs : List ChangeOf) → sees ≡ includes g o Soa → AreTouched o ts cs
+      → length (filter (λ t. not (not (t.soa && sees) && includes_none g t.points.items)) (take n ts)) ≡ length (shown g (take n cs)) ⊎ (length ts < n)
+  touched_shown g sees zero ts cs soa are = inl refl
+  touched_shown g sees (suc n) [] cs soa are = inr (omega arith)
+  touched_shown g sees (suc n) (t ∷ ts) [] soa are = absurd are
+  touched_shown g sees (suc n) (t ∷ ts) (c ∷ cs) soa are = go (touched_shown g sees n ts cs soa are.1)
+    where
+      test : Touched → Bool
+      test t = not (t.soa && sees) && includes_none g t.points.items
+
+      same : hides g c ≡ test t
+      same = are.0 g ∙ ap (λ b. not (t.soa && b) && includes_none g t.points.items) (sym soa)
+
+      one : (b : Bool) → length (filter (λ u. not (test u)) (take n ts)) ≡ length (shown g (take n cs)) → length (cond (not b) (t ∷ filter (λ u. not (test u)) (take n ts)) (filter (λ u. not (test u)) (take n ts))) ≡ length (cond (not b) (c ∷ shown g (take n cs)) (shown g (take n cs)))
+      one true e = e
+      one false e = ap suc e
+
+      go : length (filter (λ u. not (test u)) (take n ts)) ≡ length (shown g (take n cs)) ⊎ (length ts < n) → length (filter (λ u. not (test u)) (take (suc n) (t ∷ ts))) ≡ length (shown g (take (suc n) (c ∷ cs))) ⊎ (length (t ∷ ts) < suc n)
+      go (inl e) = inl (one (test t) e ∙ sym (ap (λ b. length (cond (not b) (c ∷ shown g (take n cs)) (shown g (take n cs)))) same))
+      go (inr less) = inr (omega (arith, less))
+
+  -- of what is remembered of changes, what is passed over
+  pub touched_passed : (g : GrantsOf) (sees : Bool) (most : ℕ) (passed : Passed) (ts : List Touched) (cs : List ChangeOf) → sees ≡ includes g o Soa → AreTouched o ts cs → passed.read ≤ length ts
+      → passed.seen ≡ length (filter (λ t. not (not (t.soa && sees) && includes_none g t.points.items)) (take passed.read ts)) → passed.seen ≤ most → ArePassed g cs most passed
+  touched_passed g sees most passed ts cs soa are there seen few =
+      record { there = omega (arith, there, touched_length ts cs are); seen = seen ∙ counted (touched_shown g sees passed.read ts cs soa are); few = few }
+    where
+      test : Touched → Bool
+      test t = not (t.soa && sees) && includes_none g t.points.items
+
+      counted : length (filter (λ u. not (test u)) (take passed.read ts)) ≡ length (shown g (take passed.read cs)) ⊎ (length ts < passed.read) → length (filter (λ u. not (test u)) (take passed.read ts)) ≡ length (shown g (take passed.read cs))
+      counted (inl e) = e
+      counted (inr less) = absurd (omega (arith, there, less))
 
   -- one more change, of which nothing is to be remembered yet
   pub touched_empty : (ts : List Touched) (cs : List ChangeOf) (t : Touched) (c : ChangeOf) → AreTouched o ts cs → length ts ≡ length cs → Covers o t c → AreTouched o (ts ++ t ∷ []) (cs ++ c ∷ [])
@@ -98,11 +138,32 @@ pub on_err : {X E : Type 0} (r : Result X E) (A : Type 0) → A → OnErr r A
 on_err (Ok x) A a = tt
 on_err (Err e) A a = a
 
--- one more record that grants leave out
-pub hides_more : (g : GrantsOf) (rs : List Record) (i : ℕ) (r : Record) → i < length rs → r ≡ get_or rs i r → IsTrue (hides_each g (take i rs)) → includes g r.owner (type_of r.rdata) ≡ false → IsTrue (hides_each g (take (i + 1) rs))
-hides_more g rs i r lt is before out =
+-- the SOA is touched, whether it was before or not
+pub soa_noted : (s inc none : Bool) → (not (true && inc) && none) ≡ ((not (s && inc) && none) && not inc)
+soa_noted true true true = refl
+soa_noted true true false = refl
+soa_noted true false true = refl
+soa_noted true false false = refl
+soa_noted false true true = refl
+soa_noted false true false = refl
+soa_noted false false true = refl
+soa_noted false false false = refl
+
+-- one more record
+pub noted_more : (g : GrantsOf) (a b d : Bool) (rs : List Record) (i : ℕ) (r : Record) → i < length rs → r ≡ get_or rs i r → b ≡ (a && hides_each g (take i rs)) → d ≡ (b && not (includes g r.owner (type_of r.rdata)))
+    → d ≡ (a && hides_each g (take (i + 1) rs))
+noted_more g a b d rs i r lt is before step =
     let test = λ (x : Record). not (includes g x.owner (type_of x.rdata)) in
-    list_all_more test rs i r lt ∙ and_from (list_all test (take i rs)) (test (get_or rs i r)) before (ap test (sym is) ∙ ap not out)
+    step
+    ∙ ap (λ x. x && test r) before
+    ∙ and_assoc a (list_all test (take i rs)) (test r)
+    ∙ ap (λ x. a && (list_all test (take i rs) && test x)) is
+    ∙ ap (λ x. a && x) (sym (list_all_more test rs i r lt))
+
+-- no record yet
+pub noted_none : (a : Bool) → a ≡ (a && true)
+noted_none true = refl
+noted_none false = refl
 
 -- the changes that are read, one by one
 pub next_read : (xs : List Change) (ys : List ChangeOf) (i : ℕ) (x : Change) → map change_in xs ≡ take (length xs) ys → i < length xs → x ≡ get_or xs i x → drop i ys ≡ change_in x ∷ drop (suc i) ys

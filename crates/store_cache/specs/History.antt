@@ -31,9 +31,13 @@ are_hidden grants cs count = nat_le count (length cs) && list_all (hides grants)
 
 -- ---- what is remembered
 
--- Whoever may list neither the SOA of the zone nor anything of what a change touches may list nothing of the change.
+-- whether grants leave out all that a change touches: the SOA of its zone, if it touches that, and owners and types
+abbrev pub leaves_out : GrantsOf → List (List ℕ) → Touched → Bool
+leaves_out grants origin touched = not (touched.soa && includes grants origin Soa) && includes_none grants touched.points.items
+
+-- Grants include no record of a change exactly where they leave out what it touches.
 abbrev pub Covers : List (List ℕ) → Touched → ChangeOf → Type 0
-Covers origin touched c = (grants : GrantsOf) → includes grants origin Soa ≡ false → IsTrue (includes_none grants touched.points.items) → IsTrue (hides grants c)
+Covers origin touched c = (grants : GrantsOf) → hides grants c ≡ leaves_out grants origin touched
 
 -- what the first of some changes touch, one after the other
 abbrev pub AreTouched : List (List ℕ) → List Touched → List ChangeOf → Type 0
@@ -49,9 +53,9 @@ KnowsAll zone cs = AreTouched zone.origin zone.changes.items cs × (length zone.
 abbrev pub without_records : ChangeOf
 without_records = record { removed = []; added = [] }
 
--- a change has no record besides those of another one and one more: what holds of these holds of all that it has
+-- a change has the records of another one and one more
 abbrev pub HasAlso : Record → ChangeOf → ChangeOf → Type 0
-HasAlso r c more = (test : Record → Bool) → test r ≡ true → list_all test (c.removed ++ c.added) ≡ true → list_all test (more.removed ++ more.added) ≡ true
+HasAlso r c more = (test : Record → Bool) → list_all test (more.removed ++ more.added) ≡ (list_all test (c.removed ++ c.added) && test r)
 
 -- the changes of a zone of a state begin with those that are remembered
 abbrev pub Remembers : State → Option ZoneHistory → Type 0

@@ -1,20 +1,20 @@
 //! What the changes of a zone touch, as far as they were read. A change stays as it was made, so it need not be read again for who sees
 //! nothing of it.
 
-ghost use Rattle.std.specs.Prelude.{◌≡◌, ◌+◌, ◌++◌, ◌∷◌, ◌≤◌, List, [], Some, true, false, IfOk, OnOk, OnErr, IsTrue, length, map, take, drop};
-ghost use Rattle.std.specs.List.{list_all};
-ghost use Rattle.dns_data.specs.declared.record_type.RecordType.TheVariants.{Soa};
+ghost use Rattle.std.specs.Prelude.{◌≡◌, ◌+◌, ◌++◌, ◌∷◌, ◌≤◌, ◌&&◌, ℕ, List, [], Some, true, not, IfOk, OnOk, OnErr, IsTrue, length, map, take, drop};
+ghost use Rattle.std.specs.List.{filter, list_all};
 ghost use Rattle.dns_data.specs.Rdata.{type_of};
 ghost use Rattle.grant_policy.specs.Grants.{GrantsOf, includes};
 ghost use Rattle.zone_core.specs.Changes.{ChangeOf, change_in};
 ghost use Rattle.office_model.specs.States.{Held, State};
-ghost use Rattle.store_cache.specs.History.{AreTouched, Covers, HasAlso, KnowsAll, Remembers, are_hidden, hides_each, includes_none, without_records};
+ghost use Rattle.office_model.specs.Tables.{ArePassed};
+ghost use Rattle.store_cache.specs.History.{AreTouched, Covers, HasAlso, KnowsAll, Remembers, are_hidden, hides_each, includes_none, leaves_out, without_records};
 
 use crate::shelf::OfZone;
 use dns_data::{Record, RecordType};
 use dns_names::Name;
 use grant_policy::Grants;
-use office_model::Ahead;
+use office_model::{Ahead, Passed};
 use std::alloc::{AllocError, Global};
 use zone_core::Change;
 
@@ -61,73 +61,94 @@ impl Point {
     }
 }
 
-/// Appends the owner and the type of a record, if it is not the SOA of an origin or like the last one. The only error is out of memory.
-fn push_point(
-    alloc: Global,
-    points: &mut Vec<Point>,
-    origin: &Name,
-    rr: &Record,
-) -> Result<(), AllocError>
+/// Appends the owner and the type of a record, if they are not like the last ones. The only error is out of memory.
+fn push_point(alloc: Global, points: &mut Vec<Point>, rr: &Record) -> Result<(), AllocError>
     ensures { OnOk result
-        ((grants : GrantsOf) → includes grants origin.now Soa ≡ false → IsTrue (includes_none grants points.new.items)
-        → IsTrue (includes_none grants points.old.items) × (includes grants rr.now.owner (type_of rr.now.rdata) ≡ false)) }
+        ((grants : GrantsOf)
+        → includes_none grants points.new.items ≡ (includes_none grants points.old.items && not (includes grants rr.now.owner (type_of rr.now.rdata)))) }
 {
-    let record_type = rr.record_type();
-    if is_type(record_type, RecordType::Soa) && rr.owner == *origin {
-        return Ok(());
-    }
     if let Some(last) = points.last() {
         if last.is_of(rr) {
             return Ok(());
         }
     }
     let owner = rr.owner.try_copy(alloc)?;
+    let record_type = rr.record_type();
     points.push(Point { owner, record_type })?;
     Ok(())
 }
 
-/// Appends the owners and types of records, but for the SOA of an origin. The only error is out of memory.
-fn push_points(
-    alloc: Global,
-    points: &mut Vec<Point>,
-    origin: &Name,
-    records: &[Record],
-) -> Result<(), AllocError>
-    ensures { OnOk result
-        ((grants : GrantsOf) → includes grants origin.now Soa ≡ false → IsTrue (includes_none grants points.new.items)
-        → IsTrue (includes_none grants points.old.items) × IsTrue (hides_each grants records.now)) }
-{
-    for record in records {
-        push_point(alloc, points, origin, record)?;
-    }
-    Ok(())
-}
-
-/// What a change touches: the owners and types of its records, but for the SOA of its zone.
+/// What a change touches: whether its zone's SOA, and the owners and types of its other records.
 #[derive(Drop)]
 struct Touched {
+    soa: bool,
     points: Vec<Point>,
     /// How many records it has, with the SOA.
     records: usize,
 }
 
 impl Touched {
+    /// Nothing yet.
+    fn new(alloc: Global) -> Touched
+        ensures { (grants : GrantsOf) (origin : List (List ℕ)) → leaves_out grants origin result ≡ true }
+    {
+        Touched {
+            soa: false,
+            points: Vec::new(alloc),
+            records: 0,
+        }
+    }
+
+    /// Notes one more record of a change of the zone of an origin. The only error is out of memory.
+    fn note(&mut self, alloc: Global, origin: &Name, rr: &Record) -> Result<(), AllocError>
+        ensures { OnOk result
+            ((grants : GrantsOf)
+            → leaves_out grants origin.now self.new
+            ≡ (leaves_out grants origin.now self.old && not (includes grants rr.now.owner (type_of rr.now.rdata)))) }
+    {
+        self.records = self.records.saturating_add(1);
+        if is_type(rr.record_type(), RecordType::Soa) && rr.owner == *origin {
+            self.soa = true;
+            return Ok(());
+        }
+        push_point(alloc, &mut self.points, rr)
+    }
+
+    /// Notes records of a change of the zone of an origin. The only error is out of memory.
+    fn note_each(
+        &mut self,
+        alloc: Global,
+        origin: &Name,
+        records: &[Record],
+    ) -> Result<(), AllocError>
+        ensures { OnOk result
+            ((grants : GrantsOf)
+            → leaves_out grants origin.now self.new ≡ (leaves_out grants origin.now self.old && hides_each grants records.now)) }
+    {
+        for record in records {
+            self.note(alloc, origin, record)?;
+        }
+        Ok(())
+    }
+
     /// What a change of the zone of an origin touches. The only error is out of memory.
     fn of(alloc: Global, origin: &Name, change: &Change) -> Result<Touched, AllocError>
         ensures { IfOk result (λ touched. Covers origin.now touched (change_in change.now)) }
     {
-        let mut points = Vec::new(alloc);
-        push_points(alloc, &mut points, origin, &change.removed)?;
-        push_points(alloc, &mut points, origin, &change.added)?;
-        let records = change.removed.len().saturating_add(change.added.len());
-        Ok(Touched { points, records })
+        let mut touched = Touched::new(alloc);
+        touched.note_each(alloc, origin, &change.removed)?;
+        touched.note_each(alloc, origin, &change.added)?;
+        Ok(touched)
     }
 
-    /// Whether grants include none of it.
-    fn is_hidden(&self, grants: &mut Grants<'_>) -> bool
-        ensures value { result ≡ includes_none grants.old self.now.points.items }
+    /// Whether grants, which include the SOA of the zone of an origin or not, leave out all of it.
+    fn is_hidden(&self, sees_soa: bool, grants: &mut Grants<'_>) -> bool
+        ensures value { result ≡ (not (self.now.soa && sees_soa) && includes_none grants.old self.now.points.items) }
         ensures same { grants.new ≡ grants.old }
     {
+        if self.soa && sees_soa {
+            return false;
+        }
         for point in &self.points {
             if grants.include(&point.owner, point.record_type) {
                 return false;
@@ -138,19 +159,43 @@ impl Touched {
 }
 
 /// How many of some changes come before the first of which grants include something.
-fn first_hidden(changes: &[Touched], grants: &mut Grants<'_>) -> usize
+fn first_hidden(changes: &[Touched], sees_soa: bool, grants: &mut Grants<'_>) -> usize
     ensures there { result ≤ length changes.now }
-    ensures hidden { IsTrue (list_all (λ t. includes_none grants.old t.points.items) (take result changes.now)) }
+    ensures hidden { IsTrue (list_all (λ t. not (t.soa && sees_soa) && includes_none grants.old t.points.items) (take result changes.now)) }
     ensures same { grants.new ≡ grants.old }
 {
     let mut count = 0;
     for touched in changes {
-        if !touched.is_hidden(grants) {
+        if !touched.is_hidden(sees_soa, grants) {
             return count;
         }
         count += 1;
     }
     count
+}
+
+/// The first of some changes, up to the first of which grants include something after so many of such.
+fn passed_of(changes: &[Touched], most: u32, sees_soa: bool, grants: &mut Grants<'_>) -> Passed
+    ensures there { result.read ≤ length changes.now }
+    ensures seen { result.seen
+        ≡ length (filter (λ t. not (not (t.soa && sees_soa) && includes_none grants.old t.points.items)) (take result.read changes.now)) }
+    ensures few { result.seen ≤ most }
+    ensures same { grants.new ≡ grants.old }
+{
+    let mut passed = Passed::NONE;
+    for touched in changes {
+        let Some(read) = passed.read.checked_add(1) else {
+            return passed;
+        };
+        if !touched.is_hidden(sees_soa, grants) {
+            if passed.seen >= most {
+                return passed;
+            }
+            passed.seen += 1;
+        }
+        passed.read = read;
+    }
+    passed
 }
 
 /// The changes that may be read at once, and how many records they have together.
@@ -185,24 +230,14 @@ fn near(changes: &[Touched]) -> &[Touched] {
     changes.get(..PIECE).unwrap_or(changes)
 }
 
-/// How many of some changes to read at once: those that have few records together, and some that are not remembered after all of them.
-fn first_few(changes: &[Touched]) -> u32 {
-    let mut piece = Piece::new();
-    for touched in near(changes) {
-        if !piece.takes(touched) {
-            return piece.changes;
-        }
-    }
-    piece.changes.saturating_add(UNKNOWN)
-}
-
-/// The same up to the first of which grants include nothing.
-fn first_shown(changes: &[Touched], grants: &mut Grants<'_>) -> u32
+/// How many of some changes to read at once: those that have few records together, up to the first of which grants include nothing, and
+/// some that are not remembered after all of them.
+fn first_shown(changes: &[Touched], sees_soa: bool, grants: &mut Grants<'_>) -> u32
     ensures { grants.new ≡ grants.old }
 {
     let mut piece = Piece::new();
     for touched in near(changes) {
-        if touched.is_hidden(grants) || !piece.takes(touched) {
+        if touched.is_hidden(sees_soa, grants) || !piece.takes(touched) {
             return piece.changes;
         }
     }
@@ -251,8 +286,7 @@ impl ZoneHistory {
         ensures next { OnOk result ((cs : List ChangeOf) → KnowsAll self.old cs → KnowsAll self.new (cs ++ without_records ∷ [])) }
         ensures failed { OnErr result ((cs : List ChangeOf) → KnowsAll self.old cs → KnowsAll self.new cs) }
     {
-        let points = Vec::new(alloc);
-        self.changes.push(Touched { points, records: 0 })?;
+        self.changes.push(Touched::new(alloc))?;
         Ok(())
     }
 
@@ -270,8 +304,7 @@ impl ZoneHistory {
             return Ok(());
         };
         let before = last.points.len();
-        push_point(alloc, &mut last.points, &self.origin, rr)?;
-        last.records = last.records.saturating_add(1);
+        last.note(alloc, &self.origin, rr)?;
         let more = last.points.len().saturating_sub(before);
         self.points = self.points.saturating_add(more);
         self.changes.push(last)?;
@@ -304,19 +337,25 @@ impl ZoneHistory {
         ensures same { grants.new ≡ grants.old }
     {
         let rest = behind(&self.changes, count);
-        // who sees the SOA sees something of nearly each change
-        if grants.include(&self.origin, RecordType::Soa) {
-            return Ahead {
-                hidden: 0,
-                shown: first_few(rest),
-            };
-        }
-        let hidden = first_hidden(rest, grants);
-        let shown = first_shown(&rest[hidden..], grants);
+        let sees_soa = grants.include(&self.origin, RecordType::Soa);
+        let hidden = first_hidden(rest, sees_soa, grants);
+        let shown = first_shown(&rest[hidden..], sees_soa, grants);
         match u32::try_from(hidden) {
             Ok(hidden) => Ahead { hidden, shown },
             Err(_) => unknown(),
         }
+    }
+}
+
+impl ZoneHistory {
+    /// Passes over the next changes after the first ones, so many, up to the first of which grants include something after so many of
+    /// such.
+    fn passed(&self, count: u32, most: u32, grants: &mut Grants<'_>) -> Passed
+        ensures passed { (cs : List ChangeOf) → AreTouched self.now.origin self.now.changes.items cs → ArePassed grants.old (drop count cs) most result }
+        ensures same { grants.new ≡ grants.old }
+    {
+        let sees_soa = grants.include(&self.origin, RecordType::Soa);
+        passed_of(behind(&self.changes, count), most, sees_soa, grants)
     }
 }
 
@@ -408,5 +447,23 @@ pub fn ahead_in(
     match history {
         Some(zone) if zone.origin == *origin => zone.ahead(count, grants),
         _ => unknown(),
+    }
+}
+
+/// What is passed over of the changes of the zone of an origin after the first ones, so many, by what is remembered.
+pub fn passed_in(
+    history: &Option<ZoneHistory>,
+    origin: &Name,
+    count: u32,
+    most: u32,
+    grants: &mut Grants<'_>,
+) -> Passed
+    ensures passed { (s : State) (held : Held) → s.zones origin.now ≡ Some held → Remembers s history.now
+        → ArePassed grants.old (drop count held.changes) most result }
+    ensures same { grants.new ≡ grants.old }
+{
+    match history {
+        Some(zone) if zone.origin == *origin => zone.passed(count, most, grants),
+        _ => Passed::NONE,
     }
 }

@@ -11,5 +11,5 @@ mod shelf;
 pub use cached_zone::{
     CachedZone, cached_of, follow, is_cached, part_of_cached, subtree_of_cached, take_cached,
 };
-pub use history::{ZoneHistory, ahead_in, remember};
+pub use history::{ZoneHistory, ahead_in, passed_in, remember};
 pub use shelf::{OfZone, Shelf, forget_on, turn_on, turn_to};
