@@ -103,13 +103,20 @@ pub fn listening_at<M: Surroundings>(
     Ok((listener, text))
 }
 
-/// How many MB of memory a service takes for zones that were asked for before, if its words do not say.
-const MEMORY: u64 = 256;
+/// How many octets a number of MB is, or the most that there can be.
+fn octets_of(megabytes: u64) -> usize {
+    usize::try_from(megabytes.saturating_mul(1 << 20)).unwrap_or(usize::MAX)
+}
 
-/// How many octets a number of MB is, or a larger number of them than there are.
-fn memory_of(megabytes: Option<u64>) -> usize {
-    let octets = megabytes.unwrap_or(MEMORY).saturating_mul(1 << 20);
-    usize::try_from(octets).unwrap_or(usize::MAX)
+/// Lets a table take so many MB of memory for zones that were asked for before, if the words of a service give a number.
+fn limit<S: Alter + Drop, L: Ledger>(table: &mut SqlTable<S, L>, megabytes: Option<u64>)
+    ensures conn { table.new.conn ≡ table.old.conn }
+    ensures counts { table.new.book.total ≡ table.old.book.total }
+    ensures fault { table.new.fault ≡ table.old.fault }
+{
+    if let Some(megabytes) = megabytes {
+        table.limit_memory(octets_of(megabytes));
+    }
 }
 
 /// How connections are served by a policy, as the words say.
@@ -245,7 +252,7 @@ fn serve_opened<M: Surroundings, S: Alter + Drop, L: Ledger, W: Sink, E: Sink>(
         (record { old = E.contents trace.old; new = E.contents trace.new; before = E.failures trace.old; after = E.failures trace.new }) }
 {
     let mut table = table;
-    table.limit_memory(memory_of(service.memory));
+    limit(&mut table, service.memory);
     let connections = connections_of(around, &service, policy, &Remembered);
     let done = serve_table(
         around,

@@ -83,7 +83,7 @@ pub struct Connections<'a, C: Clock, D> {
 }
 
 impl<C: Clock, D> Connections<'_, C, D> {
-    /// Serves the stream of a peer whose age is told by its watch, and hands the peer back with it.
+    /// Serves the stream of a peer, of which a watch gives the age, and hands the peer back with it.
     fn serve_stream<P: Peer + Drop, T: ZoneTable, A: Ledger, B: Ledger, Q: AgeOf>(
         &self,
         responder: &mut Responder<'_>,

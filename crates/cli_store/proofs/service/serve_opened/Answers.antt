@@ -10,10 +10,10 @@ pub returns : goal.returns
 returns g c =
     let e = c.serve_table-done.ensures in
     let of = c.connections_of-connections.ensures in
-    let table = c.limit_memory.new.self in
+    let table = c.limit.new.table in
     let left = c.serve_table-done.new.table in
     let callers : Callers _ _ = record { cut = g.M.Listener.Socket.cut; gives = g.M.Listener.Socket.gives; ends = g.M.Listener.Socket.ends; flow = g.M.Listener.Peer.Peer.flow; times = g.M.Listener.Peer.Peer.times } in
-    rw (c.into_connection.ensures, sym c.limit_memory.ensures.conn) (record {
+    rw (c.into_connection.ensures, sym c.limit.ensures.conn) (record {
       honest = e.honest;
       before = record { conn = table.conn; failures = table.book.total; fault = table.fault };
       before_is = refl;
