@@ -43,12 +43,12 @@ def additions(name, count):
     return {"id": name, "operations": adds}
 
 
-def changes(history):
-    """The rows of changes: the SOA before and after, and the record that was added."""
+def changes(history, origin=ORIGIN):
+    """The rows of changes of a zone: the SOA before and after, and the record that was added."""
     for number in range(1, history + 1):
-        yield ORIGIN, number, 0, ORIGIN, 6, soa(number), 3600
-        yield ORIGIN, number, 1, ORIGIN, 6, soa(number + 1), 3600
-        yield ORIGIN, number, 1, "h%06d.old.%s" % (number, ORIGIN), 1, "192.0.2.5", 300
+        yield origin, number, 0, origin, 6, soa(number), 3600
+        yield origin, number, 1, origin, 6, soa(number + 1), 3600
+        yield origin, number, 1, "h%06d.old.%s" % (number, origin), 1, "192.0.2.5", 300
 
 
 def receipts(history):
