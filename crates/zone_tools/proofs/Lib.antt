@@ -11,3 +11,4 @@ pub mod ReverseNameLemmas
 pub mod ReverseBlockLemmas
 pub mod PointerLemmas
 pub mod SharedLemmas
+pub mod LargeSetLemmas

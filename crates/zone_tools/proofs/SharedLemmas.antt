@@ -42,12 +42,12 @@ AreUp = IsStrictlySortedBy address_order
 
 -- ---- those of a filter
 
-filter_parts : (p : Record → Bool) (rs : List Record) (r : Record) → Contains (filter p rs) r → Contains rs r × (p r ≡ true)
+pub filter_parts : (p : Record → Bool) (rs : List Record) (r : Record) → Contains (filter p rs) r → Contains rs r × (p r ≡ true)
 filter_parts p rs r c =
     let both = (among_filter [] p rs r).0 (among_of (filter p rs) r c) in
     (of_among rs r both.0, both.1)
 
-in_filter : (p : Record → Bool) (rs : List Record) (r : Record) → Contains rs r → p r ≡ true → Contains (filter p rs) r
+pub in_filter : (p : Record → Bool) (rs : List Record) (r : Record) → Contains rs r → p r ≡ true → Contains (filter p rs) r
 in_filter p rs r c e = of_among (filter p rs) r ((among_filter [] p rs r).1 (among_of rs r c, e))
 
 not_true : (b : Bool) → not b ≡ true → b ≡ false

@@ -5,6 +5,7 @@ pub mod ReverseNames
 pub mod Pointers
 pub mod SharedAddresses
 pub mod RecordFaults
+pub mod LargeSets
 pub mod ZoneRules
 pub mod ZoneTests
 pub mod ZoneFindings

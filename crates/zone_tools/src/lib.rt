@@ -7,6 +7,7 @@
 
 mod difference;
 mod host_names;
+mod large_record_sets;
 mod laws;
 mod name_server;
 mod pointers;
@@ -23,6 +24,7 @@ mod zone_survey;
 
 pub use difference::operations_between;
 pub use host_names::is_reverse;
+pub use large_record_sets::large_sets;
 pub use laws::{clean_zones_have_glue, pointers_are_one};
 pub use name_server::{NameServer, Reaction};
 pub use pointers::reverse_pointers;
