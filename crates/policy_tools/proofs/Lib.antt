@@ -16,3 +16,5 @@ mod ExpectationLemmas
 mod WordLaws
 mod ReadingLemmas
 mod ExpectationLaws
+mod SliceLemmas
+mod ReaderLemmas

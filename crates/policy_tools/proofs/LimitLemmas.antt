@@ -1,20 +1,21 @@
 -- Whether a limit is kept, by the entries at names that represent its names.
-use Rattle.std.proofs.Common.{◌≡◌, ℕ, ◌+◌, ◌<◌, ◌≤◌, ◌^◌, true, false, List, [], ◌∷◌, ◌++◌, length, map, get_or, take, Option, Some, None, Result, Ok, Err, IfOk, Vec, Global, refl, sym, ap, ◌∙◌, subst, arith, ⊎_elim, length-append}
+use Rattle.std.proofs.Common.{◌≡◌, ◌⊎◌, ℕ, ◌+◌, ◌<◌, ◌≤◌, ◌^◌, true, false, List, [], ◌∷◌, ◌++◌, length, map, get_or, take, Option, Some, None, Result, Ok, Err, IfOk, Vec, Global, refl, sym, ap, ◌∙◌, subst, arith, ⊎_elim, length-append, append_assoc, append-nil}
 use Rattle.std.specs.Prelude.{slice_get, bytes_eq}
 use Rattle.std.specs.List.{Contains, list_any}
-use Rattle.std.proofs.lemmas.Bool.{false≢true, false_from_ne_true, and_from}
-use Rattle.std.proofs.lemmas.List.{get_or_default, length-map, take_more}
+use Rattle.std.proofs.lemmas.Bool.{cases_Bool, false≢true, false_from_ne_true, and_from}
+use Rattle.std.proofs.lemmas.List.{get_or_default, length-map, take_more, take_all}
 use Rattle.std.proofs.lemmas.List.Elements.{Contains-append_left, Contains-append_right, Contains-push, Contains-push_cases}
 use Rattle.std.proofs.lemmas.List.Folds.{Any-from_list_any, list_any_at}
 use Rattle.std.proofs.lemmas.Option.{slice_get_within}
 use Rattle.std.proofs.lemmas.Slice.Eq.{bytes_eq-Decides}
-use Rattle.dns_names.specs.Labels.{IsName}
+use Rattle.dns_names.specs.Labels.{IsName, IsWithin, is_within}
 use Rattle.dns_data.specs.declared.record_type.RecordType.{RecordType}
 use Rattle.grant_policy.specs.declared.action.Action.{Action}
 use Rattle.grant_policy.specs.declared.callers.Callers.{Callers}
 use Rattle.grant_policy.specs.declared.callers.Callers.TheVariants.{Every, One}
 use Rattle.grant_policy.specs.declared.rule.Rule.{Rule}
 use Rattle.grant_policy.specs.declared.scope.Scope.{Scope}
+use Rattle.grant_policy.specs.declared.scope.Scope.TheVariants.{Name, Subtree, Below}
 use Rattle.grant_policy.specs.Identifiers.{IsIdentifier}
 use Rattle.grant_policy.specs.Rules.{has, is_of, same_type, same_action}
 use Rattle.grant_policy.specs.Scopes.{Covers, covers}
@@ -26,16 +27,18 @@ use Rattle.policy_tools.specs.Changes.{place_of}
 use Rattle.policy_tools.specs.Claims.{AreEntries}
 use Rattle.policy_tools.specs.EntryRights.{GrantsUnlisted, are_listed}
 use Rattle.policy_tools.specs.Exposures.{IsGrantedBy, named_of}
-use Rattle.policy_tools.specs.Limits.{IsLimited, IsKeptAt, IsKept, IsUnknown, UnlistedHas, IsExcess, RepresentLimit, ArePlaces}
+use Rattle.policy_tools.specs.Limits.{IsLimited, IsKeptAt, IsKept, IsUnknown, UnlistedHas, IsExcess, RepresentLimit, ArePlaces, AddsPlaces}
 use Rattle.policy_tools.specs.Points.{has_point, names_pair}
 use Rattle.policy_tools.specs.Representatives.{AreAlike, Represent}
 use Rattle.grant_policy.proofs.DecisionLaws.{same_Some}
 use Rattle.grant_policy.proofs.RuleLemmas.{has-Decides}
-use Rattle.grant_policy.proofs.ScopeLemmas.{covers-Decides}
+use Rattle.grant_policy.proofs.ScopeLemmas.{covers-Decides, is_within-Decides, within_self, within_trans}
 use Rattle.grant_policy.proofs.WordLemmas.{same_type-Decides, same_action-Decides}
 use Rattle.policy_tools.proofs.CallerLemmas.{names, free_identifier, not_named}
 use Rattle.policy_tools.proofs.ClaimLemmas.{in_map}
 use Rattle.policy_tools.proofs.IsolatedLemmas.{among_self, includes_self, unnamed_by, not_one, granted_by_rule, rule_of_grant, GrantsAt, granted_at, spoken_of, at_granted, left_at, at_left, decision_alike}
+use Rattle.policy_tools.proofs.RepresentativeLemmas.{covers_both}
+use Rattle.policy_tools.proofs.SliceLemmas.{comparable}
 use Rattle.policy_tools.proofs.TakeLemmas.{fst, snd}
 
 -- ---- lists of callers
@@ -168,19 +171,43 @@ kept_all rules limit names' all each name is caller t a unlisted limited g =
     let at : get_or names' r.1.0 [] ≡ r.0 = get_or_default names' r.1.0 [] r.0 r.1.1 ∙ r.1.2 in
     kept_like rules limit name r.0 r.3 r.2 (subst (λ (n : List (List ℕ)). IsKeptAt rules limit n) at (each r.1.0 r.1.1)) caller t a unlisted limited g
 
+-- a name above some name within a top is above the top, unless it is within it
+above : (at top name : List (List ℕ)) → ¬ IsWithin at top → IsWithin name top → IsWithin name at → IsWithin top at
+above at top name out w c = ⊎_elim (λ (inside : IsWithin at top). absurd (out inside)) (λ (h : IsWithin top at). h) (comparable name at top c w)
+
+-- a rule at a name that is not within another covers all names within that one, or none
+covers_above : (scope : Scope) (at top name other : List (List ℕ)) → ¬ IsWithin at top → IsWithin name top → IsWithin other top → Covers scope at name → Covers scope at other
+covers_above Name at top name other out w v e = absurd (out (subst (λ (n : List (List ℕ)). IsWithin n top) e w))
+covers_above Subtree at top name other out w v c = within_trans other top at v (above at top name out w c)
+covers_above Below at top name other out w v c = (within_trans other top at v (above at top name out w c.0), λ e. out (subst (λ (n : List (List ℕ)). IsWithin n top) e v))
+
+alike_above : (rule : Rule) (top name other : List (List ℕ)) → ¬ IsWithin rule.at top → IsWithin name top → IsWithin other top → covers rule.scope rule.at name ≡ covers rule.scope rule.at other
+alike_above rule top name other out w v = covers_both rule.scope rule.at name other (covers_above rule.scope rule.at top name other out w v) (covers_above rule.scope rule.at top other name out v w)
+
+-- each name of a scope is within its name
+covered_within : (scope : Scope) (at name : List (List ℕ)) → Covers scope at name → IsWithin name at
+covered_within Name at name e = subst (λ (n : List (List ℕ)). IsWithin n at) (sym e) (within_self at)
+covered_within Subtree at name w = w
+covered_within Below at name w = w.0
+
 pub limit_names : (rules : List Rule) (limit : Limit) (places : List Rule) (names' : List (List (List ℕ))) → ArePlaces rules limit places → Represent places names' → RepresentLimit rules limit names'
 limit_names rules limit places names' are rep = record {
   valid = rep.valid;
   each = λ name is covered.
       let r = rep.each name is in
-      let own = subst (λ (l : List Rule). Contains l are.place) (sym are.are) (Contains-push (map place_of rules) are.place) in
       let same : covers limit.scope limit.at name ≡ covers limit.scope limit.at r.0 =
       subst (λ (s : Scope). covers s limit.at name ≡ covers s limit.at r.0) are.scope
-      (subst (λ (at : List (List ℕ)). covers are.place.scope at name ≡ covers are.place.scope at r.0) are.at (r.2 are.place own)) in (
+      (subst (λ (at : List (List ℕ)). covers are.place.scope at name ≡ covers are.place.scope at r.0) are.at (r.2 are.place are.own)) in
+      let covers' = (covers-Decides limit.scope limit.at r.0).0 (sym same ∙ (covers-Decides limit.scope limit.at name).1 covered) in
+      let w = covered_within limit.scope limit.at name covered in
+      let v = covered_within limit.scope limit.at r.0 covers' in (
         r.0,
         r.1,
-        (covers-Decides limit.scope limit.at r.0).0 (sym same ∙ (covers-Decides limit.scope limit.at name).1 covered),
-        λ rule in'. r.2 (place_of rule) (subst (λ (l : List Rule). Contains l (place_of rule)) (sym are.are) (Contains-append_left (map place_of rules) (are.place ∷ []) (place_of rule) (in_map place_of rules rule in'))),
+        covers',
+        λ rule in'. ⊎_elim
+            (λ (yes' : is_within rule.at limit.at ≡ true). r.2 (place_of rule) (are.each rule in' ((is_within-Decides rule.at limit.at).0 yes')))
+            (λ (no' : is_within rule.at limit.at ≡ false). alike_above rule limit.at name r.0 (λ h. false≢true (sym no' ∙ (is_within-Decides rule.at limit.at).1 h)) w v)
+            (cases_Bool (is_within rule.at limit.at)),
       );
 }
 
@@ -198,3 +225,46 @@ excess_not rules limit excess is kept = by excess.caller is.has
     by : (o : Option (List ℕ)) → ¬ UnlistedHas rules limit excess.name o excess.right
     by None has = never has.some.0 has.some.2.unlisted (has.each has.some.0 has.some.2)
     by (Some who) has = never who has.0 has.1
+
+-- ---- places
+
+pub places_first : (top : List (List ℕ)) (places : List Rule) → AddsPlaces [] top places places
+places_first top places = record { more = []; are = sym (append-nil places); each = λ rule in' w. absurd (omega (arith, in'.1)) }
+
+one_more : (rules : List Rule) (n : ℕ) (rule : Rule) → n < length rules → rule ≡ get_or rules n rule → (x : Rule) → Contains (take (n + 1) rules) x → Contains (take n rules) x ⊎ (rule ≡ x)
+one_more rules n rule lt is x in' =
+    let more : take (n + 1) rules ≡ take n rules ++ rule ∷ [] = take_more rules n rule lt ∙ ap (λ (y : Rule). take n rules ++ y ∷ []) (sym is) in
+    Contains-push_cases (take n rules) rule x (subst (λ (l : List Rule). Contains l x) more in')
+
+module _ (rules : List Rule) (n : ℕ) (rule : Rule) (lt : n < length rules) (is : rule ≡ get_or rules n rule) (top : List (List ℕ)) (old new : List Rule) (so_far : AddsPlaces (take n rules) top old new) where
+  pub places_yes : (place : Rule) → place ≡ place_of rule → AddsPlaces (take (n + 1) rules) top old (new ++ place ∷ [])
+  places_yes place at = record {
+    more = so_far.more ++ place ∷ [];
+    are = ap (λ (l : List Rule). l ++ place ∷ []) so_far.are ∙ append_assoc old so_far.more (place ∷ []);
+    each = λ x in' w. ⊎_elim
+        (λ (before : Contains (take n rules) x). Contains-append_left so_far.more (place ∷ []) (place_of x) (so_far.each x before w))
+        (λ (here : rule ≡ x). subst (Contains (so_far.more ++ place ∷ [])) (at ∙ ap place_of here) (Contains-push so_far.more place))
+        (one_more rules n rule lt is x in');
+  }
+
+  pub places_no : ¬ IsWithin rule.at top → AddsPlaces (take (n + 1) rules) top old new
+  places_no out = record {
+    more = so_far.more;
+    are = so_far.are;
+    each = λ x in' w. ⊎_elim
+        (λ (before : Contains (take n rules) x). so_far.each x before w)
+        (λ (here : rule ≡ x). absurd (out (subst (λ (r : Rule). IsWithin r.at top) (sym here) w)))
+        (one_more rules n rule lt is x in');
+  }
+
+pub places_all : (rules : List Rule) (n : ℕ) (top : List (List ℕ)) (old new : List Rule) → length rules ≤ n → AddsPlaces (take n rules) top old new → AddsPlaces rules top old new
+places_all rules n top old new all adds = subst (λ (l : List Rule). AddsPlaces l top old new) (take_all n rules all) adds
+
+pub are_places : (rules : List Rule) (limit : Limit) (place : Rule) (places : List Rule) → place.scope ≡ limit.scope → place.at ≡ limit.at → AddsPlaces rules limit.at (place ∷ []) places → ArePlaces rules limit places
+are_places rules limit place places scope at adds = record {
+  place = place;
+  scope = scope;
+  at = at;
+  own = subst (λ (l : List Rule). Contains l place) (sym adds.are) (0, omega arith, refl);
+  each = λ rule in' w. subst (λ (l : List Rule). Contains l (place_of rule)) (sym adds.are) (Contains-append_right (place ∷ []) adds.more (place_of rule) (adds.each rule in' w));
+}

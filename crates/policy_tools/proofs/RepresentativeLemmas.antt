@@ -62,7 +62,7 @@ pub within_longer : (a b : List (List ℕ)) → IsWithin a b → length b ≤ le
 within_longer a b (f, e) = omega (arith, ap (length {A = List ℕ}) e, length-append f b)
 
 -- what is before a name, without the label that is next to it
-last_label : (label : List ℕ) (front top : List (List ℕ)) → (x : List ℕ) × IsWithin ((label ∷ front) ++ top) (x ∷ top)
+pub last_label : (label : List ℕ) (front top : List (List ℕ)) → (x : List ℕ) × IsWithin ((label ∷ front) ++ top) (x ∷ top)
 last_label label [] top = (label, ([], refl))
 last_label label (next ∷ front) top =
     let l = last_label next front top in
@@ -104,7 +104,7 @@ pub record IsServed (rules : List Rule) (top : List (List ℕ)) (names : List (L
   pub itself : Contains names top
   pub below : ((child : List (List ℕ)) × Contains names child × IsFreeBelow rules top child) ⊎ ((label : List ℕ) → IsName (label ∷ top) → ¬ IsFree rules (label ∷ top))
 
-covers_both : (scope : Scope) (at name other : List (List ℕ)) → (Covers scope at name → Covers scope at other) → (Covers scope at other → Covers scope at name) → covers scope at name ≡ covers scope at other
+pub covers_both : (scope : Scope) (at name other : List (List ℕ)) → (Covers scope at name → Covers scope at other) → (Covers scope at other → Covers scope at name) → covers scope at name ≡ covers scope at other
 covers_both scope at name other there back =
     same_from_decides (covers scope at name) (covers scope at other) (covers-Decides scope at name) (Decides-like (covers scope at other) back there (covers-Decides scope at other))
 

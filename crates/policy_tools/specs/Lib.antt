@@ -15,3 +15,5 @@ pub mod Expectations
 pub mod ExpectationFaults
 pub mod ExpectationLines
 pub mod ExpectationReading
+pub mod Slices
+pub mod Readers

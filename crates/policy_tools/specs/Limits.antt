@@ -1,7 +1,7 @@
 -- Limits: nobody but some callers may do something with records at some names.
-use Rattle.std.specs.Prelude.{◌≡◌, ℕ, List, [], ◌∷◌, ◌++◌, map, Option, Some, None}
+use Rattle.std.specs.Prelude.{◌≡◌, ℕ, List, ◌++◌, Option, Some, None}
 use Rattle.std.specs.List.{All, Contains}
-use Rattle.dns_names.specs.Labels.{IsName}
+use Rattle.dns_names.specs.Labels.{IsName, IsWithin}
 use Rattle.dns_data.specs.declared.record_type.RecordType.{RecordType}
 use Rattle.grant_policy.specs.declared.action.Action.{Action}
 use Rattle.grant_policy.specs.declared.rule.Rule.{Rule}
@@ -61,9 +61,16 @@ pub record RepresentLimit (rules : List Rule) (limit : Limit) (names : List (Lis
   pub valid : All IsName names
   pub each : (name : List (List ℕ)) → IsName name → Covers limit.scope limit.at name → (other : List (List ℕ)) × Contains names other × Covers limit.scope limit.at other × AreAlike rules name other
 
--- rules at the names of others, and one at that of the limit
+-- places are added, and among them one at the name of each rule whose name is within a top
+pub record AddsPlaces (rules : List Rule) (top : List (List ℕ)) (old new : List Rule) : Type 0 where
+  pub more : List Rule
+  pub are : new ≡ old ++ more
+  pub each : (rule : Rule) → Contains rules rule → IsWithin rule.at top → Contains more (place_of rule)
+
+-- a rule at the name of the limit, and one at that of each rule whose name is within it
 pub record ArePlaces (rules : List Rule) (limit : Limit) (places : List Rule) : Type 0 where
   pub place : Rule
   pub scope : place.scope ≡ limit.scope
   pub at : place.at ≡ limit.at
-  pub are : places ≡ map place_of rules ++ place ∷ []
+  pub own : Contains places place
+  pub each : (rule : Rule) → Contains rules rule → IsWithin rule.at limit.at → Contains places (place_of rule)

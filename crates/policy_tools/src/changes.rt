@@ -80,11 +80,7 @@ fn places_of(alloc: Global, old: &[Rule], new: &[Rule]) -> Result<Vec<Rule>, All
 }
 
 /// Adds a rule at the name of each of these.
-pub(crate) fn add_places(
-    alloc: Global,
-    rules: &[Rule],
-    places: &mut Vec<Rule>,
-) -> Result<(), AllocError>
+fn add_places(alloc: Global, rules: &[Rule], places: &mut Vec<Rule>) -> Result<(), AllocError>
     ensures { OnOk result (places.new.items ≡ places.old.items ++ map place_of rules.now) }
 {
     for rule in rules {
@@ -94,7 +90,7 @@ pub(crate) fn add_places(
 }
 
 /// A rule at the name of another, that denies everybody everything.
-fn place(alloc: Global, rule: &Rule) -> Result<Rule, AllocError>
+pub(crate) fn place(alloc: Global, rule: &Rule) -> Result<Rule, AllocError>
     ensures { IfOk result (λ place. place ≡ place_of rule.now) }
 {
     Ok(Rule {

@@ -47,7 +47,7 @@ pub(crate) fn free_child(
 
 /// Whether labels of this text in front of `top` are no longer than a name may be.
 #[tactic(auto, using(crate::proofs::FreeNameLemmas::read_ok, crate::proofs::FreeNameLemmas::read_err))]
-fn fits(alloc: Global, text: &[u8], top: &Name) -> Result<bool, AllocError>
+pub(crate) fn fits(alloc: Global, text: &[u8], top: &Name) -> Result<bool, AllocError>
     ensures read { IfOk result (λ fits. fits ≡ is_ok (relative_name top.now text.now)) }
     ensures name { IsName top.now }
 {

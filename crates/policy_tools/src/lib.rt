@@ -20,9 +20,11 @@ mod name_changes;
 mod name_groups;
 mod name_rights;
 mod points;
+mod readers;
 mod representatives;
 mod rights;
 mod shared_callers;
+mod slices;
 mod taking;
 mod wanted;
 
@@ -39,4 +41,6 @@ pub use limits::Excess;
 pub use name_changes::{CallerChange, Change, NameChanges};
 pub use name_groups::{GroupRights, NameGroup, rights_by_group};
 pub use name_rights::{CallerRights, NameRights, rights_at};
+pub use readers::{Hidden, hidden_from};
 pub use rights::Rights;
+pub use slices::{slice_of, stray_rules, unspoken_origins};

@@ -1,13 +1,13 @@
 //! Whether a policy keeps a limit.
 
-ghost use Rattle.std.specs.Prelude.{◌≡◌, ◌≤◌, length, IfOk, MatchOption};
+ghost use Rattle.std.specs.Prelude.{◌≡◌, ◌+◌, ◌≤◌, length, IfOk, OnOk, MatchOption};
 ghost use Rattle.std.specs.List.{All};
 ghost use Rattle.dns_names.specs.Labels.{IsName};
 ghost use Rattle.grant_policy.specs.Scopes.{Covers};
 ghost use Rattle.policy_tools.specs.Claims.{IsClaim, AreEntries, rules_of};
-ghost use Rattle.policy_tools.specs.Limits.{IsKept, IsKeptAt, IsExcess, RepresentLimit, ArePlaces};
+ghost use Rattle.policy_tools.specs.Limits.{IsKept, IsKeptAt, IsExcess, RepresentLimit, ArePlaces, AddsPlaces};
 
-use crate::changes::add_places;
+use crate::changes::place;
 use crate::claims::{Claim, Entry, claims_of, entries_at};
 use crate::entry_rights::unlisted_right;
 use crate::expectation::Limit;
@@ -44,7 +44,11 @@ pub(crate) fn excess_by(
 }
 
 /// Names that represent all names of a limit.
-fn names_of(alloc: Global, rules: &[Rule], limit: &Limit) -> Result<Vec<Name>, AllocError>
+pub(crate) fn names_of(
+    alloc: Global,
+    rules: &[Rule],
+    limit: &Limit,
+) -> Result<Vec<Name>, AllocError>
     requires { length rules.now ≤ 1024 }
     ensures { IfOk result (λ names. RepresentLimit rules.now limit.now names.items) }
 {
@@ -52,18 +56,37 @@ fn names_of(alloc: Global, rules: &[Rule], limit: &Limit) -> Result<Vec<Name>, A
     representatives(alloc, &places)
 }
 
-/// A rule at the name of each rule, and one at that of a limit.
+/// A rule at the name of a limit, and one at that of each rule whose name is within it: no other tells names within it apart.
 fn places_of(alloc: Global, rules: &[Rule], limit: &Limit) -> Result<Vec<Rule>, AllocError>
-    ensures { IfOk result (λ places. ArePlaces rules.now limit.now places.items) }
+    ensures places { IfOk result (λ places. ArePlaces rules.now limit.now places.items) }
+    ensures few { IfOk result (λ places. length places.items ≤ length rules.now + 1) }
 {
     let mut places = Vec::new(alloc);
-    add_places(alloc, rules, &mut places)?;
-    places.push(place(alloc, limit)?)?;
+    places.push(limit_place(alloc, limit)?)?;
+    add_places_within(alloc, rules, &limit.at, &mut places)?;
     Ok(places)
 }
 
+/// Adds a rule at the name of each of these whose name is within another.
+fn add_places_within(
+    alloc: Global,
+    rules: &[Rule],
+    top: &Name,
+    places: &mut Vec<Rule>,
+) -> Result<(), AllocError>
+    ensures added { OnOk result (AddsPlaces rules.now top.now places.old.items places.new.items) }
+    ensures few { OnOk result (length places.new.items ≤ length places.old.items + length rules.now) }
+{
+    for rule in rules {
+        if rule.at.is_within(top) {
+            places.push(place(alloc, rule)?)?;
+        }
+    }
+    Ok(())
+}
+
 /// A rule at the name of a limit.
-fn place(alloc: Global, limit: &Limit) -> Result<Rule, AllocError>
+fn limit_place(alloc: Global, limit: &Limit) -> Result<Rule, AllocError>
     ensures scope { IfOk result (λ place. place.scope ≡ limit.now.scope) }
     ensures at { IfOk result (λ place. place.at ≡ limit.now.at) }
 {
