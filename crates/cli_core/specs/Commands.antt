@@ -38,6 +38,9 @@ argument_row argument.CheckedName = (codes "name", OptionalPlace)
 argument_row argument.Isolated = (codes "caller", Asked)
 argument_row argument.Only = (codes "only", Optional)
 argument_row argument.Not = (codes "not", Optional)
+argument_row argument.Server = (codes "server", Optional)
+argument_row argument.Most = (codes "most", Number)
+argument_row argument.Warn = (codes "warn", Flag)
 argument_row argument.Json = (codes "json", Flag)
 argument_row argument.Guard = (codes "guard", Flag)
 argument_row argument.GuardSets = (codes "guard-sets", Flag)
@@ -77,7 +80,7 @@ command_row command.Plan = (codes "plan", argument.Policy ∷ argument.Caller �
 command_row command.Serve =
     (codes "serve", argument.Store ∷ argument.Policy ∷ argument.Listen ∷ argument.Connections ∷ argument.Patience ∷ argument.Longest ∷ argument.Memory ∷ [])
 command_row command.Check =
-    (codes "check", argument.Subject ∷ argument.CheckedName ∷ argument.CheckedPolicy ∷ argument.Against ∷ argument.Isolated ∷ argument.CheckedOrigin ∷ argument.Only ∷ argument.Not ∷ [])
+    (codes "check", argument.Subject ∷ argument.CheckedName ∷ argument.CheckedPolicy ∷ argument.Against ∷ argument.Isolated ∷ argument.CheckedOrigin ∷ argument.Only ∷ argument.Not ∷ argument.Server ∷ argument.Most ∷ argument.Warn ∷ [])
 command_row command.Answer = (codes "answer", argument.Origin ∷ argument.File ∷ argument.AskedName ∷ argument.AskedType ∷ [])
 command_row command.Reverse = (codes "reverse", argument.Origin ∷ argument.File ∷ [])
 command_row command.Explain = (codes "explain", argument.Number ∷ argument.Json ∷ [])

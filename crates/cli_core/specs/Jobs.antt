@@ -21,6 +21,9 @@ use Rattle.cli_core.specs.declared.job.RequestForm.TheVariants as request_form
 use Rattle.cli_core.specs.declared.job.StoredZone.{StoredZone}
 use Rattle.cli_core.specs.declared.job.RuleChoice.{RuleChoice}
 use Rattle.cli_core.specs.declared.job.RuleChoice.TheVariants as choice
+use Rattle.cli_core.specs.declared.job.ZoneRules.{ZoneRules}
+use Rattle.cli_core.specs.declared.job.Advice.{Advice}
+use Rattle.cli_core.specs.declared.job.Advice.TheVariants.{Unasked, Wanted}
 use Rattle.cli_core.specs.declared.job.Job.{Job}
 use Rattle.cli_core.specs.declared.job.Job.TheVariants as job
 use Rattle.cli_core.specs.declared.job.TextJob.{TextJob}
@@ -67,10 +70,19 @@ abbrev pub request_values : RequestForm → Text → List Given
 request_values request_form.Whole id = (argument.Id, given id) ∷ (argument.Split, text None) ∷ []
 request_values request_form.Split id = (argument.Id, text None) ∷ (argument.Split, given id) ∷ []
 
-abbrev pub choice_values : RuleChoice → List Given
-choice_values choice.All = (argument.Only, text None) ∷ (argument.Not, text None) ∷ []
-choice_values (choice.Only rule) = (argument.Only, given rule.now) ∷ (argument.Not, text None) ∷ []
-choice_values (choice.Not rule) = (argument.Only, text None) ∷ (argument.Not, given rule.now) ∷ []
+abbrev pub is_wanted : Advice → Bool
+is_wanted Unasked = false
+is_wanted Wanted = true
+
+abbrev pub choice_values : RuleChoice → List Given → List Given
+choice_values choice.All gs = (argument.Only, text None) ∷ (argument.Not, text None) ∷ gs
+choice_values (choice.Only rule) gs = (argument.Only, given rule.now) ∷ (argument.Not, text None) ∷ gs
+choice_values (choice.Not rule) gs = (argument.Only, text None) ∷ (argument.Not, given rule.now) ∷ gs
+
+-- a server, the most records of a set, and whether shared addresses are wanted
+abbrev pub further_values : ZoneRules → List Given
+further_values rules =
+    (argument.Server, text (option_map (λ s. s.now) rules.server)) ∷ (argument.Most, number rules.most) ∷ (argument.Warn, flag (is_wanted rules.advice)) ∷ []
 
 abbrev pub subject : Text → Given
 subject word = (argument.Subject, given word)
@@ -86,7 +98,7 @@ asks_check (check.Rights policy name) =
     (command.Check, subject (codes "rights") ∷ (argument.CheckedName, text (option_map (λ n. n.now) name)) ∷ (argument.CheckedPolicy, given policy.now) ∷ [])
 asks_check (check.Expect policy file) =
     (command.Check, subject (codes "expect") ∷ (argument.CheckedName, text (option_map (λ f. f.now) file)) ∷ (argument.CheckedPolicy, given policy.now) ∷ [])
-asks_check (check.Zone origin rules) = (command.Check, subject (codes "zone") ∷ (argument.CheckedOrigin, given origin.now) ∷ choice_values rules)
+asks_check (check.Zone origin rules) = (command.Check, subject (codes "zone") ∷ (argument.CheckedOrigin, given origin.now) ∷ choice_values rules.choice (further_values rules))
 
 abbrev pub asks_text : TextJob → JobOf
 asks_text text_job.Apply = (command.Apply, [])

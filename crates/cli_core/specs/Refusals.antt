@@ -18,7 +18,7 @@ use Rattle.grant_policy.specs.Faults.{fault_number as policy_number}
 use Rattle.cli_core.specs.declared.word_fault.WordFault.{WordFault}
 use Rattle.cli_core.specs.declared.word_fault.WordFault.TheVariants as of_word
 use Rattle.cli_core.specs.declared.refusal.Refusal.{Refusal}
-use Rattle.cli_core.specs.declared.refusal.Refusal.TheVariants.{Name, TypeNotKept, NoCaller, NoAction, NoRule, TooLarge, NoDivider, Master, Zone, Policy, Items, Unmet, Line, UnknownNumber, NoIdentifier, BodyTooLarge, Store}
+use Rattle.cli_core.specs.declared.refusal.Refusal.TheVariants.{Name, TypeNotKept, NoCaller, NoAction, NoRule, NoServer, TooLarge, NoDivider, Master, Zone, Policy, Items, Unmet, Line, UnknownNumber, NoIdentifier, BodyTooLarge, Store}
 
 -- ---- numbers: that of a refusal, and after it that of the refusal within it
 
@@ -49,6 +49,7 @@ refusal_number TypeNotKept = 17
 refusal_number NoCaller = 54
 refusal_number NoAction = 54
 refusal_number NoRule = 54
+refusal_number NoServer = 54
 refusal_number TooLarge = 30
 refusal_number NoDivider = 96
 refusal_number UnknownNumber = 98

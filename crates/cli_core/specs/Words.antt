@@ -17,7 +17,7 @@ subjects =
     ∷ (codes "isolation", argument.CheckedPolicy ∷ argument.Isolated ∷ [])
     ∷ (codes "rights", argument.CheckedName ∷ argument.CheckedPolicy ∷ [])
     ∷ (codes "expect", argument.CheckedName ∷ argument.CheckedPolicy ∷ [])
-    ∷ (codes "zone", argument.CheckedOrigin ∷ argument.Only ∷ argument.Not ∷ []) ∷ []
+    ∷ (codes "zone", argument.CheckedOrigin ∷ argument.Only ∷ argument.Not ∷ argument.Server ∷ argument.Most ∷ argument.Warn ∷ []) ∷ []
 
 -- the arguments that a job of a command reads: those of its row, and of `check` those of its subject
 abbrev pub arguments_read : Command → Option Text → Option (List Argument)

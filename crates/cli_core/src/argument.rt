@@ -33,6 +33,9 @@ pub enum Argument {
     Isolated,
     Only,
     Not,
+    Server,
+    Most,
+    Warn,
     Json,
     Guard,
     GuardSets,
@@ -198,6 +201,21 @@ impl Argument {
                 name: "not",
                 form: Form::Optional,
                 help: "The rule to leave out",
+            },
+            Argument::Server => &Row {
+                name: "server",
+                form: Form::Optional,
+                help: "Only what this server refuses or warns of: bind, knot or nsd",
+            },
+            Argument::Most => &Row {
+                name: "most",
+                form: Form::Number,
+                help: "Also record sets of more records than this, or of more than 65,000 octets",
+            },
+            Argument::Warn => &Row {
+                name: "warn",
+                form: Form::Flag,
+                help: "Also addresses that several names have",
             },
             Argument::Json => &Row {
                 name: "json",

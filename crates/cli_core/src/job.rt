@@ -123,6 +123,28 @@ pub enum RuleChoice<'a> {
     Not(&'a str),
 }
 
+/// Whether a check also reports what is no fault, but seldom meant: addresses that several names have.
+#[derive(Clone, Copy)]
+pub enum Advice {
+    /// It is not.
+    Unasked,
+    /// It is.
+    Wanted,
+}
+
+/// By what a zone is checked.
+#[derive(Clone, Copy)]
+pub struct ZoneRules<'a> {
+    /// By which of the rules.
+    pub choice: RuleChoice<'a>,
+    /// The word of the server that has to mind a rule, where one is given.
+    pub server: Option<&'a str>,
+    /// How many records a set has at most, where that is given.
+    pub most: Option<u64>,
+    /// Whether addresses that several names have are reported.
+    pub advice: Advice,
+}
+
 /// A zone of a store, as the words of `import`, of `export` and of `log` name it.
 #[derive(Clone, Copy)]
 pub struct StoredZone<'a> {

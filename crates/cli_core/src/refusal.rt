@@ -28,6 +28,8 @@ pub enum Refusal {
     NoAction,
     /// A word of the command line is no rule for zones.
     NoRule,
+    /// A word of the command line is no name server.
+    NoServer,
     /// The input has more than 4,194,304 octets.
     TooLarge,
     /// No line of the input is `--`.
@@ -73,7 +75,7 @@ impl Refusal {
         match self {
             Refusal::Name(fault) => fault.number(),
             Refusal::TypeNotKept => 17,
-            Refusal::NoCaller | Refusal::NoAction | Refusal::NoRule => 54,
+            Refusal::NoCaller | Refusal::NoAction | Refusal::NoRule | Refusal::NoServer => 54,
             Refusal::TooLarge => 30,
             Refusal::NoDivider => 96,
             Refusal::UnknownNumber => 98,
@@ -109,6 +111,7 @@ impl Refusal {
                 "a caller is 1 to 64 of the octets a to z, A to Z, 0 to 9, -, _ and .",
             Refusal::NoAction => "the action is not one of list, check, add, delete and delegate",
             Refusal::NoRule => "no rule for zones has this name: see zoneoffice check --help",
+            Refusal::NoServer => "the server is not one of bind, knot and nsd",
             Refusal::NoIdentifier =>
                 "an identifier is 1 to 64 of the octets a to z, A to Z, 0 to 9, -, _ and .",
             Refusal::BodyTooLarge => "the body has more than 65536 octets",

@@ -34,7 +34,7 @@ use Rattle.cli_core.specs.Device.{AppendsFront}
 use Rattle.cli_text.specs.Canon.{zone_of_file}
 use Rattle.cli_text.specs.Apply.{records_of}
 use Rattle.cli_text.specs.Reverse.{IsReverseReport}
-use Rattle.cli_text.specs.ZoneCheck.{filter_of, IsZoneReport}
+use Rattle.cli_text.specs.ZoneCheck.{tests_of, IsZoneReport}
 use Rattle.cli_text.specs.RightsCheck.{IsRightsText}
 use Rattle.cli_text.specs.PolicyChanges.{IsChangesReport}
 use Rattle.cli_text.specs.Expect.{expectations_read, IsExpectReport}
@@ -54,7 +54,7 @@ abbrev pub name_if : Option (List ℕ) → Result (Option (List (List ℕ))) Ref
 name_if None = Ok None
 name_if (Some word) = of_names (absolute_name word) >>= λ name. Ok (Some name)
 
--- what words ask for: the rules for a zone are read before its origin
+-- what words ask for: what a zone is checked by is read before its origin
 abbrev pub asked_in : Subject → Result Asked Refusal
 asked_in subject.Rules = Ok asked.Rules
 asked_in (subject.Changes old) = Ok (asked.Changes old)
@@ -62,7 +62,7 @@ asked_in (subject.Expected policy) = Ok (asked.Expected policy)
 asked_in (subject.Isolation word) = or_refused (identifier_of word.now) NoCaller >>= λ caller. Ok (asked.Isolation caller)
 asked_in (subject.Rights word) = name_if (option_map (λ w. w.now) word) >>= λ name. Ok (asked.Rights name)
 asked_in (subject.Reverse word) = of_names (absolute_name word.now) >>= λ origin. Ok (asked.Reverse origin)
-asked_in (subject.Zone origin rules) = filter_of rules >>= λ filter. of_names (absolute_name origin.now) >>= λ name. Ok (asked.Zone name filter)
+asked_in (subject.Zone origin rules) = tests_of rules >>= λ tests. of_names (absolute_name origin.now) >>= λ name. Ok (asked.Zone name tests)
 
 -- what that is in an input: a policy, expectations, or the files of zones
 abbrev pub checking_of : Asked → List ℕ → Result Checking Refusal
@@ -72,7 +72,7 @@ checking_of (asked.Expected policy) text = expectations_read text >>= λ rows. O
 checking_of (asked.Isolation caller) text = rules_in text >>= λ rules. Ok (checking.Isolation caller rules)
 checking_of (asked.Rights name) text = rules_in text >>= λ rules. Ok (checking.Rights name rules)
 checking_of (asked.Reverse origin) text = records_of text >>= λ records. Ok (checking.Reverse origin records)
-checking_of (asked.Zone origin filter) text = zone_of_file origin text >>= λ zone. Ok (checking.Zone zone filter)
+checking_of (asked.Zone origin tests) text = zone_of_file origin text >>= λ zone. Ok (checking.Zone zone tests)
 
 -- the words are read first, and then the input
 abbrev pub checked_read : Subject → List ℕ → Result Checking Refusal
@@ -136,7 +136,7 @@ IsReportOn (checking.Expected policy rows) findings text = IsExpectReport policy
 IsReportOn (checking.Isolation caller rules) findings text = IsIsolationReport rules caller findings text
 IsReportOn (checking.Rights name rules) findings text = IsRightsText name rules text × (findings ≡ Absent)
 IsReportOn (checking.Reverse origin records) findings text = IsReverseReport origin records findings text
-IsReportOn (checking.Zone zone filter) findings text = IsZoneReport zone filter findings text
+IsReportOn (checking.Zone zone tests) findings text = IsZoneReport zone tests findings text
 
 -- the report on what is read
 abbrev pub ReportsOn : Subject → Option (List ℕ) → Findings → List ℕ → Type 0

@@ -15,8 +15,8 @@ use crate::policy_changes::changes_report;
 use crate::reverse::{ForwardRecords, forward_records, reverse_report};
 use crate::rights::read_caller;
 use crate::rights_check::rights_list;
-use crate::zone_check::{RuleFilter, filter_of, zone_report};
-use cli_core::{Input, JobFault, LineFault, RuleChoice, read_input, write_refusal, write_text};
+use crate::zone_check::{ZoneTests, tests_of, zone_report};
+use cli_core::{Input, JobFault, LineFault, ZoneRules, read_input, write_refusal, write_text};
 use dns_master::Sink;
 use dns_names::Name;
 use grant_policy::{Identifier, Policy, Rule, read_policy};
@@ -39,8 +39,8 @@ pub enum Subject<'a> {
     Rights(Option<&'a str>),
     /// The pointers that its addresses call for in the reverse zone of this origin.
     Reverse(&'a str),
-    /// What other name servers refuse or warn of in the zone of this origin, by these rules.
-    Zone(&'a str, RuleChoice<'a>),
+    /// What other name servers refuse or warn of in the zone of this origin, and what else is asked for.
+    Zone(&'a str, ZoneRules<'a>),
 }
 
 /// Whether a check found something.
@@ -61,7 +61,7 @@ enum Asked<'a> {
     Isolation(Identifier),
     Rights(Option<Name>),
     Reverse(Name),
-    Zone(Name, RuleFilter),
+    Zone(Name, ZoneTests),
 }
 
 /// What is checked, of an input that was read.
@@ -73,7 +73,7 @@ enum Checking<'a> {
     Isolation(Identifier, Policy),
     Rights(Option<Name>, Policy),
     Reverse(Name, ForwardRecords),
-    Zone(Zone, RuleFilter),
+    Zone(Zone, ZoneTests),
 }
 
 /// What a check found, and the text that tells it.
@@ -93,16 +93,12 @@ pub fn name_if(alloc: Global, word: Option<&str>) -> Result<Option<Name>, LineFa
     }
 }
 
-/// The origin and the rules of a zone to check. The refusal of the rules comes first.
-fn zone_asked<'a>(
-    alloc: Global,
-    origin: &str,
-    rules: RuleChoice<'_>,
-) -> Result<Asked<'a>, LineFault>
+/// The origin of a zone to check, and by what. The refusal of the latter comes first.
+fn zone_asked<'a>(alloc: Global, origin: &str, rules: ZoneRules<'_>) -> Result<Asked<'a>, LineFault>
     ensures { Gives (λ wanted. wanted) result (asked_in (Subject.Zone origin.entry rules.entry)) }
 {
-    let filter = filter_of(rules)?;
-    Ok(Asked::Zone(read_name(alloc, origin)?, filter))
+    let tests = tests_of(rules)?;
+    Ok(Asked::Zone(read_name(alloc, origin)?, tests))
 }
 
 /// What words ask for.
@@ -145,8 +141,8 @@ fn checking_of<'a>(
             let forward = forward_records(alloc, text)?;
             Ok(Checking::Reverse(origin, forward))
         }
-        Asked::Zone(origin, filter) => {
-            Ok(Checking::Zone(zone_of_file(alloc, origin, text)?, filter))
+        Asked::Zone(origin, tests) => {
+            Ok(Checking::Zone(zone_of_file(alloc, origin, text)?, tests))
         }
     }
 }
@@ -347,7 +343,7 @@ fn report_on(alloc: Global, checking: &Checking<'_>) -> Result<Report, AllocErro
         Checking::Isolation(caller, policy) => isolation_report(alloc, policy, caller),
         Checking::Rights(name, policy) => rights_report(alloc, policy, name),
         Checking::Reverse(origin, forward) => reverse_report(alloc, origin, forward),
-        Checking::Zone(zone, rules) => zone_report(alloc, zone, *rules),
+        Checking::Zone(zone, tests) => zone_report(alloc, zone, *tests),
     }
 }
 

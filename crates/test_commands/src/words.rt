@@ -1,8 +1,9 @@
 //! What the words of a command line ask for.
 
 use cli_core::{
-    Check, DiffForm, Existing, GuardScope, Job, LogChoice, QuestionWords, RequestForm, RuleChoice,
-    Service, StoreJob, StoredZone, TextForm, TextJob, WordsFault, ZoneFiles, ZoneForm, read_words,
+    Advice, Check, DiffForm, Existing, GuardScope, Job, LogChoice, QuestionWords, RequestForm,
+    RuleChoice, Service, StoreJob, StoredZone, TextForm, TextJob, WordsFault, ZoneFiles, ZoneForm,
+    ZoneRules, read_words,
 };
 use std::alloc::{AllocError, Global};
 use test_rows::Row;
@@ -70,12 +71,12 @@ fn text_of(fault: &WordsFault) -> &str {
 /// Appends what a job was told by the words.
 fn push_job(alloc: Global, job: &Job<'_>, answer: &mut Vec<u8>) -> Result<(), AllocError> {
     match job {
-        Job::Text(job) => push_text_job(job, answer),
+        Job::Text(job) => push_text_job(alloc, job, answer),
         Job::Store(job) => push_store_job(alloc, job, answer),
     }
 }
 
-fn push_text_job(job: &TextJob<'_>, answer: &mut Vec<u8>) -> Result<(), AllocError> {
+fn push_text_job(alloc: Global, job: &TextJob<'_>, answer: &mut Vec<u8>) -> Result<(), AllocError> {
     match job {
         TextJob::Apply => push("apply", answer),
         TextJob::Canon(words) => {
@@ -89,7 +90,7 @@ fn push_text_job(job: &TextJob<'_>, answer: &mut Vec<u8>) -> Result<(), AllocErr
         }
         TextJob::Rights(words) => push_question(words.policy, &words.asked, answer),
         TextJob::Plan(words) => push_plan(words.policy, words.caller, answer),
-        TextJob::Check(words) => push_check(words, answer),
+        TextJob::Check(words) => push_check(alloc, words, answer),
         TextJob::Answer(words) => {
             push_all(
                 &[
@@ -112,7 +113,7 @@ fn push_text_job(job: &TextJob<'_>, answer: &mut Vec<u8>) -> Result<(), AllocErr
     }
 }
 
-fn push_check(words: &Check<'_>, answer: &mut Vec<u8>) -> Result<(), AllocError> {
+fn push_check(alloc: Global, words: &Check<'_>, answer: &mut Vec<u8>) -> Result<(), AllocError> {
     match words {
         Check::Policy { policy, against } => {
             push_all(&["check policy (", policy, ")"], answer)?;
@@ -132,7 +133,7 @@ fn push_check(words: &Check<'_>, answer: &mut Vec<u8>) -> Result<(), AllocError>
         }
         Check::Zone { origin, rules } => {
             push_all(&["check zone (", origin, ")"], answer)?;
-            push_choice(*rules, answer)
+            push_zone_rules(alloc, rules, answer)
         }
     }
 }
@@ -173,6 +174,21 @@ fn push_choice(rules: RuleChoice<'_>, answer: &mut Vec<u8>) -> Result<(), AllocE
         RuleChoice::All => Ok(()),
         RuleChoice::Only(rule) => push_all(&[" only (", rule, ")"], answer),
         RuleChoice::Not(rule) => push_all(&[" not (", rule, ")"], answer),
+    }
+}
+
+/// Appends by what a zone is checked.
+fn push_zone_rules(
+    alloc: Global,
+    rules: &ZoneRules<'_>,
+    answer: &mut Vec<u8>,
+) -> Result<(), AllocError> {
+    push_choice(rules.choice, answer)?;
+    push_named(" server", rules.server, answer)?;
+    push_number(alloc, " most ", rules.most, answer)?;
+    match rules.advice {
+        Advice::Unasked => Ok(()),
+        Advice::Wanted => push_all(&[" warn"], answer),
     }
 }
 

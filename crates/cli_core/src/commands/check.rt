@@ -2,14 +2,17 @@
 
 ghost use Rattle.cli_core.specs.declared.commands.Command.TheVariants as command;
 ghost use Rattle.std.specs.Prelude.{◌≡◌, codes, option_and_then, option_map};
-ghost use Rattle.clap.specs.Words.{found_of, rows_of};
-ghost use Rattle.cli_core.specs.Jobs.{asks_check};
+ghost use Rattle.clap.specs.Words.{first_of, found_of, rows_of};
+ghost use Rattle.cli_core.specs.declared.argument.Argument.TheVariants as argument;
+ghost use Rattle.cli_core.specs.Commands.{argument_name};
+ghost use Rattle.cli_core.specs.Values.{flag_if};
+ghost use Rattle.cli_core.specs.Jobs.{asks_check, is_wanted};
 ghost use Rattle.cli_core.specs.Words.{check_by};
 
 use crate::argument::Argument;
 use crate::commands::{CommandWords, Row};
-use crate::job::{Job, RuleChoice, TextJob};
-use crate::matched::{text_at, texts_at};
+use crate::job::{Advice, Job, RuleChoice, TextJob, ZoneRules};
+use crate::matched::{flag_at, number_at, text_at, texts_at};
 use clap::ArgMatches;
 
 /// The words of `check`, by its subject.
@@ -47,8 +50,8 @@ pub enum Check<'a> {
     Zone {
         /// The name of its origin.
         origin: &'a str,
-        /// By which rules.
-        rules: RuleChoice<'a>,
+        /// By what it is checked.
+        rules: ZoneRules<'a>,
     },
 }
 
@@ -65,6 +68,9 @@ pub(super) static ROW: Row = Row {
         Argument::CheckedOrigin,
         Argument::Only,
         Argument::Not,
+        Argument::Server,
+        Argument::Most,
+        Argument::Warn,
     ],
 };
 
@@ -127,12 +133,26 @@ fn expect_in<'a>(matches: &ArgMatches<'a>) -> Option<Check<'a>>
     Some(Check::Expect { policy, file })
 }
 
+/// Whether shared addresses are asked for.
+fn advice_at(matches: &ArgMatches<'_>) -> Advice
+    ensures { is_wanted result ≡ flag_if (first_of (argument_name argument.Warn) (rows_of (found_of matches.now))) }
+{
+    if flag_at(matches, Argument::Warn) {
+        Advice::Wanted
+    } else {
+        Advice::Unasked
+    }
+}
+
 /// The job of `check zone`, where not both one rule only and all but one are asked for.
 fn zone_in<'a>(matches: &ArgMatches<'a>) -> Option<Check<'a>>
     ensures { option_map asks_check result ≡ check_by (codes "zone") (rows_of (found_of matches.now)) }
 {
     let origin = text_at(matches, Argument::CheckedOrigin)?;
-    let rules = match (
+    let server = text_at(matches, Argument::Server);
+    let most = number_at(matches, Argument::Most)?;
+    let advice = advice_at(matches);
+    let choice = match (
         text_at(matches, Argument::Only),
         text_at(matches, Argument::Not),
     ) {
@@ -140,6 +160,12 @@ fn zone_in<'a>(matches: &ArgMatches<'a>) -> Option<Check<'a>>
         (Some(rule), None) => RuleChoice::Only(rule),
         (None, Some(rule)) => RuleChoice::Not(rule),
         (Some(_), Some(_)) => return None,
+    };
+    let rules = ZoneRules {
+        choice,
+        server,
+        most,
+        advice,
     };
     Some(Check::Zone { origin, rules })
 }

@@ -5,4 +5,4 @@ use Rattle.cli_text.proofs.zone_check.findings_text.Given as goal
 
 -- the findings so far
 abbrev pub invariant-loop-finding : goal.invariant-loop-finding
-invariant-loop-finding l = l.text.items ≡ flat_map (finding_text l.rules l.records) (take l.finding-index l.found)
+invariant-loop-finding l = l.text.items ≡ flat_map (finding_text l.tests l.records) (take l.finding-index l.found)
