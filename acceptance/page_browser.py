@@ -80,7 +80,17 @@ def basic(user):
 
 
 def ask(user, method, path, body=None, **fields):
-    """Sends a request through nginx, and gives its status, its fields and its body, which is JSON where it can be."""
+    """Sends a request through nginx, and gives its status, its fields and its body, which is JSON where it can be. A question is asked
+    again where the browser of the same user has too many open, or its one for changes."""
+    for _ in range(60):
+        got = ask_once(user, method, path, body, **fields)
+        if method != "GET" or got[0] != 429:
+            break
+        time.sleep(0.5)
+    return got
+
+
+def ask_once(user, method, path, body, **fields):
     connection = http.client.HTTPSConnection("office.example.org", timeout=60, context=ssl._create_unverified_context())
     head = {
         "Host": "office.example.org",

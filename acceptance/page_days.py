@@ -570,6 +570,6 @@ def all_days(browser, named):
     for story in (*DAYS, who_may_add_only, who_may_not_delete, delegations, a_key_cut_short, what_one_server_refuses, an_alias_of_nothing):
         try:
             story(browser, named)
-        except (TimeoutError, RuntimeError, WebDriverException) as fault:
+        except (KeyError, RuntimeError, TimeoutError, WebDriverException) as fault:
             check(f"the day of {story.__name__.replace('_', ' ')}", str(fault).splitlines()[0])
             browser.start_anew()
