@@ -275,11 +275,13 @@ class Browser:
     def text(self, name):
         return self.js("return document.getElementById(arguments[0]).innerText", name)
 
-    def rows(self):
-        """The rows of the table of records, as far as they are there: name, TTL, type and data."""
+    def rows(self, are_all=False):
+        """The rows of the table of records, as far as they are there, or all: name, TTL, type and data."""
         return self.js(
+            "if (arguments[0]) dispatchEvent(new Event('beforeprint'));"
             "const text = (cell) => [...cell.childNodes].filter((node) => !node.matches?.('.letters')).map((node) => node.textContent).join('');"
-            "return [...document.querySelectorAll('#table tbody:not(#new-rows) tr')].map((row) => [...row.children].slice(0, -1).map(text))"
+            "return [...document.querySelectorAll('#table tbody:not(#new-rows) tr')].map((row) => [...row.children].slice(0, -1).map(text))",
+            are_all,
         )
 
     def plan(self):
