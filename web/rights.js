@@ -6,6 +6,7 @@ import {readOwner, relative, isWithin, labelsOf, parentOf} from "./names.js";
 import {askRights, decidedBy, faultText, rightOf} from "./office.js";
 import {state} from "./state.js";
 import {clock, t} from "./text.js";
+import {upwards} from "./zone.js";
 
 // made: actions
 const ACTIONS = ["list", "check", "add", "delete", "delegate"];
@@ -46,8 +47,9 @@ export async function askTyped() {
 
 /** The names at which rights may differ: the highest of those that the caller lists, and those below that have records of their own. */
 function places() {
-    const names = [...state.zone.names.keys()];
-    const tops = names.filter((name) => !names.some((other) => other !== name && isWithin(name, other)));
+    const {names, origin} = state.zone;
+    const isTop = (name) => ![...upwards(name, origin)].slice(1).some((above) => names.has(above));
+    const tops = [...names.keys()].filter(isTop);
     const shared = tops.length > 1 ? parentOf(tops.reduce((a, b) => common(a, b))) : null;
     const above = tops.length > 1 ? [tops.reduce((a, b) => common(a, b))] : [];
     return [...new Set([...above, ...tops])].filter((name) => name !== "." && name !== shared).sort((a, b) => labelsOf(a).length - labelsOf(b).length).slice(0, MOST_NAMES);
