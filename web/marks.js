@@ -70,11 +70,11 @@ function faultMarks({faults, edit}, {rename}) {
     });
 }
 
-function noteMarks({edit: {old, now}, sharers, operations}) {
+function noteMarks({edit: {old, now}, sharers, operations, conflict}) {
     const notes = sharers.map((name) => mark("note", t("addressAt", own(name))));
     if (now) {
         const others = state.zone.set(now.name, now.type).filter(({data, ttl}) => data !== old?.data && data !== now.data && ttl !== now.ttl);
-        if (others.length && operations.some(({op}) => op === "add")) {
+        if (others.length && !conflict && operations.some(({op}) => op === "add")) { // in a conflict the choice decides
             notes.push(mark("note", t("ttlOfOthers", others.length, ttlText(now.ttl))));
         }
         const alias = now.type === "CNAME" ? state.zone.set(now.name, "CNAME").find(({data}) => data !== now.data && data !== old?.data) : undefined;

@@ -109,7 +109,7 @@ export async function showRefused(job, reply, made) {
     show("refused", t(isConflict ? "notMadeMeanwhile" : "notMade"),
         [...part, ...(isConflict ? [make("p", {}, t("conflictWhat"))] : [...(name ? [name] : []), ...words])],
         [reviewButton()]);
-    say(`${t("notMade")}: ${lacks.length ? lacks.map(deniedText).join("; ") : inWords(reply)}`);
+    say(isConflict ? t("notMadeMeanwhile") : `${t("notMade")}: ${lacks.length ? lacks.map(deniedText).join("; ") : inWords(reply)}`);
 }
 
 export function showGivenUp(job, isRead) {
