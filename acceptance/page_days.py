@@ -491,6 +491,14 @@ def delegations(browser, named):
     expect("once the child's server is up it answers, and a key that the child does not have is red", sorted(mark for mark in marks if mark[1] != "note"),
            [["answers", "good"], ["has no address", "bad"], ["the child is not signed: validators find nothing", "bad"]])
     browser.pictures("delegations")
+    change(add(f"old.{name}", "A", "198.51.100.99"))
+    browser.open("delegations", "delegations? of .*read at")
+    orphans = browser.js("return [...document.querySelectorAll('#orphans code')].map((one) => one.textContent)")
+    browser.press("#orphans button")
+    expect("an address that no server has the name of any more is shown, and can be deleted", (orphans, [line[:2] for line in browser.plan()]),
+           (["old.medicine A 198.51.100.99"], [["old.medicine", "Delete A 198.51.100.99"]]))
+    expect("it is gone", (browser.send(), [row for row in listed("admin") if row.startswith("old.")]), ("made", []))
+    browser.open("delegations", "delegations? of .*read at")
     browser.press("[aria-label^='End medicine']")
     expect("day 27, a delegation ends: servers, keys and glue go", sorted(line[1].split()[1] for line in browser.plan()), ["A", "AAAA", "DS", "NS", "NS"])
     result = browser.send()

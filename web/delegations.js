@@ -1,11 +1,11 @@
 // Delegations: the children of the zone, their servers, addresses and keys as a picture, and the forms that make, change and end one.
 
-import {$, button, code, field, hint, make, otherReading, say} from "./elements.js";
+import {$, code, field, hint, make, otherReading, say} from "./elements.js";
 import {ADDRESSES, readData, readIpv4, readIpv6, readTtl, ttlText} from "./data.js";
 import {putIn} from "./draft.js";
 import {faultsBefore} from "./judge.js";
-import {deniedText, named} from "./marks.js";
-import {askRights, faultText, mine, readList, rightOf} from "./office.js";
+import {ableButton, named} from "./marks.js";
+import {askRights, faultText, mine, readList} from "./office.js";
 import {isHost, isWithin, readOwner, readTarget, relative} from "./names.js";
 import {state} from "./state.js";
 import {clock, dateTime, t} from "./text.js";
@@ -22,11 +22,14 @@ export async function readDelegations() {
     }
     delegated = list;
     checked = children?.[state.zone.origin] ?? {};
-    await askRights(list.map(({child}) => delegatePoint(child)));
+    await askRights([...list.map(({child}) => delegatePoint(child)), ...strays().map(strayPoint)]);
     showTree();
     say(t("delegationsRead", list.length, state.zone.origin, clock()));
 }
 
+/** Addresses in a delegated part that no server has the name of any more. */
+const strays = () => faultsBefore().found.filter(({rule, record}) => rule === "below-cut" && ADDRESSES.includes(record.type)).map(({record}) => record);
+const strayPoint = ({name, type}) => ({action: "delete", name, type});
 const delegatePoint = (child) => ({action: "delegate", name: child, type: "NS"});
 const own = (name) => relative(name, state.zone.origin);
 const addressesOf = (name) => ADDRESSES.flatMap((type) => state.zone.set(name, type));
@@ -38,18 +41,15 @@ const node = (kind, ...parts) => make("div", {class: `node ${kind}`}, ...parts);
 function showTree() {
     $("children").replaceChildren(make("li", {class: "root"}, node("zone", make("strong", {}, state.zone.origin)),
         delegated.length ? make("ul", {}, ...delegated.map(childItem)) : make("p", {class: "soft"}, t("noDelegations"))));
-    const stray = faultsBefore().found.filter(({rule, record}) => rule === "below-cut" && ADDRESSES.includes(record.type)).map(({record}) => record);
+    const stray = strays();
     $("orphans").replaceChildren(...(stray.length ? [make("h3", {}, t("orphans")), make("p", {}, t("orphansWhat")),
         make("ul", {}, ...stray.map((record) => make("li", {}, code(`${own(record.name)} ${record.type} ${record.data}`), " ",
-            button(t("delete"), () => putIn([{old: record}]), {"aria-label": `${t("delete")} ${record.name} ${record.type} ${record.data}`}))))] : []));
+            ableButton(t("delete"), () => putIn([{old: record}]), strayPoint(record), `${t("delete")} ${record.name} ${record.type} ${record.data}`))))] : []));
 }
 
 function childItem({child, servers}) {
     const states = checked[child];
-    const right = rightOf(delegatePoint(child));
-    const isOff = right?.granted === false;
-    const able = (text, press) => button(text, isOff ? () => undefined : press, {"aria-label": `${text} ${child}${isOff ? `: ${deniedText({...delegatePoint(child), ...right})}` : ""}`,
-        "aria-disabled": isOff ? "true" : false, title: isOff ? deniedText({...delegatePoint(child), ...right}) : undefined});
+    const able = (text, press) => ableButton(text, press, delegatePoint(child), `${text} ${child}`);
     return make("li", {},
         node("child", make("strong", {title: child}, named(own(child))), " ", ...keyTags(child, states?.ds),
             ...(states ? [make("span", {class: "soft"}, ` ${t("checkedAt", dateTime(states.checked))}`)] : []),

@@ -37,6 +37,14 @@ export function mailLink(denials = []) {
 
 export const deniedText = ({action, name, type, by}) => t("youLack", t(`action ${action}`), type, own(name), decidedBy(by));
 
+/** A button that is grey where the policy denies what it does, with the reason. */
+export function ableButton(text, press, point, label, more = {}) {
+    const right = rightOf(point);
+    const isOff = right?.granted === false;
+    const reason = isOff ? deniedText({...point, ...right}) : undefined;
+    return button(text, isOff ? () => undefined : press, {"aria-label": isOff ? `${label}: ${reason}` : label, "aria-disabled": isOff ? "true" : false, title: reason, ...more});
+}
+
 function rightMarks({denied, unchecked, points, isHeld}) {
     if (denied.length) {
         return [...denied.map((point) => mark("bad", deniedText(point))), make("li", {class: "mark"}, mailLink(denied))];

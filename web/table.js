@@ -4,7 +4,7 @@ import {$, button, cell, make, row, rowHead} from "./elements.js";
 import {ttlText, textOf, TYPES, DELEGATING} from "./data.js";
 import {editOfRecord, putIn, takeOut} from "./draft.js";
 import {openEditor} from "./editor.js";
-import {dataShown, deniedText, mailLink} from "./marks.js";
+import {ableButton, dataShown, mailLink} from "./marks.js";
 import {askRights, rightOf} from "./office.js";
 import {search, sorted} from "./search.js";
 import {on, state} from "./state.js";
@@ -137,21 +137,15 @@ function ttlCell({ttl}, edit) {
 const deletePoint = ({name, type}) => ({action: DELEGATING.includes(type) && !(type === "NS" && name === state.zone.origin) ? "delegate" : "delete", name, type});
 const addPoint = (record) => ({...deletePoint(record), action: deletePoint(record).action === "delegate" ? "delegate" : "add"});
 
-/** A button that is grey where the policy denies what it does, with the reason. */
-function ableButton(text, press, point, label) {
-    const right = rightOf(point);
-    const isOff = right?.granted === false;
-    const reason = isOff ? deniedText({...point, ...right}) : undefined;
-    return button(text, isOff ? () => undefined : press, {"aria-label": isOff ? `${label}: ${reason}` : label, "aria-disabled": isOff ? "true" : false, title: reason, tabindex: "-1"});
-}
+const inTable = (text, press, point, what) => ableButton(text, press, point, `${text} ${what}`, {tabindex: "-1"});
 
 /** The row of a record that is at a place among those that match. */
 function recordRow(record, at) {
     const edit = editOfRecord(record);
     const what = `${record.name} ${record.type} ${record.data}`;
     const actions = edit ? editActions(edit, what) : [
-        ableButton(t("change"), () => openEditor(record), addPoint(record), `${t("change")} ${what}`), " ",
-        ...(record.type === "SOA" ? [] : [ableButton(t("delete"), () => putIn([{old: record}]), deletePoint(record), `${t("delete")} ${what}`)])];
+        inTable(t("change"), () => openEditor(record), addPoint(record), what), " ",
+        ...(record.type === "SOA" ? [] : [inTable(t("delete"), () => putIn([{old: record}]), deletePoint(record), what)])];
     const made = row(nameCell(record.name, at % PIECE ? filtered[at - 1]?.name : undefined), ttlCell(record, edit), cell("type", record.type),
         dataCell(record, edit), cell("do", ...actions));
     made.className = edit ? (edit.now ? "touched" : "touched gone") : "";
