@@ -106,7 +106,7 @@ export default {
     discard: "Discard all",
     discardAsk: (number) => `Really discard ${count(number, "change")}?`,
     planEmpty: "There is nothing to send.",
-    planWhole: "All of it is saved, or nothing.",
+    planWhole: "What is sent is saved whole, or not at all.",
     planInParts: (number) => `This is too much for one update. It is sent as ${figure(number)} updates, one after the other; of each all is saved, or nothing.`,
     areConflicts: (number) => `${figure(number)} changed meanwhile`,
     areDenied: (number) => `${figure(number)} you may not make`,

@@ -107,7 +107,7 @@ export default {
     discard: "Tout abandonner",
     discardAsk: (number) => `Vraiment abandonner ${edits(number)} ?`,
     planEmpty: "Il n’y a rien à envoyer.",
-    planWhole: "Tout est enregistré, ou rien.",
+    planWhole: "Ce qui est envoyé est enregistré en entier, ou pas du tout.",
     planInParts: (number) => `C’est trop pour un seul envoi. Il y en a ${figure(number)}, l’un après l’autre ; chacun est enregistré en entier, ou pas du tout.`,
     areConflicts: (number) => `${figure(number)} modifié entre-temps`,
     areDenied: (number) => `${figure(number)} pas permis`,
