@@ -265,7 +265,7 @@ export default {
     newBelow: "jeder neue Name unter {0}",
     atName: "{0}",
     allTypes: "alle Typen",
-    byRules: "durch {0}",
+    byRules: (names) => `nach ${names.includes(",") ? "den Regeln" : "der Regel"} ${names}`,
 
     // delegations
     delegationsWhat: "Die Teile der Zone, für die andere Server antworten, soweit Sie sie sehen dürfen.",

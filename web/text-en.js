@@ -263,7 +263,7 @@ export default {
     newBelow: "any new name below {0}",
     atName: "{0}",
     allTypes: "all types",
-    byRules: "by {0}",
+    byRules: (names) => `by the rule${names.includes(",") ? "s" : ""} ${names}`,
 
     // delegations
     delegationsWhat: "The parts of the zone that other servers answer for, as far as you may list them.",

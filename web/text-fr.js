@@ -264,7 +264,7 @@ export default {
     newBelow: "tout nouveau nom sous {0}",
     atName: "{0}",
     allTypes: "tous les types",
-    byRules: "par {0}",
+    byRules: (names) => `selon ${names.includes(",") ? "les règles" : "la règle"} ${names}`,
 
     // delegations
     delegationsWhat: "Les parties de la zone pour lesquelles d’autres serveurs répondent, autant que vous pouvez les voir.",
