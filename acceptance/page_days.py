@@ -256,6 +256,9 @@ def a_host_with_its_reverse(phys, named):
     phys.write("task-addresses", "192.0.2.240/29 2001:db8::15")
     phys.wait("document.getElementById('task-marks').textContent.includes('then, in')", "what it comes to")
     phys.pictures("host")
+    expect("day 15, a new host: an address whose reverse zone is not there gets no reverse entry, and that is said",
+           phys.js("return [...document.querySelectorAll('#task-marks .note')].map((one) => one.textContent)"),
+           ["2001:db8::15 gets no reverse entry: its reverse zone is not among yours"])
     phys.finish_task()
     expect("day 15, a new host at the next free address of a net, with its reverse entry in another zone",
            [line[:2] for line in phys.plan()] + [phys.js("return document.querySelector('#plan .then').textContent")],

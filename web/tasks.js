@@ -45,7 +45,7 @@ async function pointerEdits({type, data}, host, ttl, isNew) {
     return there.filter((record) => record.data === host).map((old) => ({zone, old}));
 }
 
-/** Puts the edits of other zones behind the first edit of this one. */
+/** Puts the edits of other zones behind the last edit of this one. */
 function joined(edits, pointers) {
     const [same, others] = [pointers.filter(({zone}) => zone === state.zone.origin), pointers.filter(({zone}) => zone !== state.zone.origin)];
     const all = [...edits, ...same.map(({zone, ...edit}) => edit)];
@@ -113,7 +113,9 @@ const TASKS = {
             }
             const edits = read.addresses.map(({type, data}) => ({now: {name: name.name, ttl: ttl.ttl, type, data}}));
             const pointers = $("task-pointer").checked ? (await Promise.all(read.addresses.map((one) => pointerEdits(one, name.name, ttl.ttl, true)))).flat() : [];
-            return {edits: joined(edits, pointers), notes: state.zone.at(name.name).length ? [t("hostIsThere", name.name)] : []};
+            const others = $("task-pointer").checked ? read.addresses.filter(({type, data}) => !reverseZone(reverseOf(type, data))) : [];
+            return {edits: joined(edits, pointers), notes: [...(state.zone.at(name.name).length ? [t("hostIsThere", name.name)] : []),
+                ...others.map(({data}) => t("noReverse", data))]};
         },
     },
     moveHost: {

@@ -326,6 +326,7 @@ export default {
     serversHint: "mail, oder mail.example.net; durch Leerzeichen getrennt",
     reportsHint: "kann fehlen",
     hostIsThere: "{0} hat schon Einträge",
+    noReverse: "{0} bekommt keinen Rückwärtseintrag: Die Rückwärtszone ist keine von Ihren",
     aliasesGo: (number) => `${count(number, "Alias davon geht", "Aliase davon gehen")} auch`,
     noGoodLine: "Es gibt keine Zeile zu übernehmen.",
     line: "Zeile {0}",

@@ -324,6 +324,7 @@ export default {
     serversHint: "mail, or mail.example.net; with spaces between them",
     reportsHint: "may be left out",
     hostIsThere: "{0} has records already",
+    noReverse: "{0} gets no reverse entry: its reverse zone is not among yours",
     aliasesGo: (number) => `${count(number, "alias", "aliases")} of it ${number === 1 ? "goes" : "go"} too`,
     noGoodLine: "There is no line to take.",
     line: "line {0}",

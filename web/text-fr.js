@@ -325,6 +325,7 @@ export default {
     serversHint: "mail, ou mail.example.net ; séparés par des espaces",
     reportsHint: "peut manquer",
     hostIsThere: "{0} a déjà des enregistrements",
+    noReverse: "{0} n’aura pas d’entrée inverse : sa zone inverse n’est pas parmi les vôtres",
     aliasesGo: (number) => `${count(number, "alias part", "alias partent")} aussi`,
     noGoodLine: "Il n’y a aucune ligne à prendre.",
     line: "ligne {0}",
