@@ -209,7 +209,7 @@ function taskField([id, more = {}]) {
 
 export function openTask(name, values = {}) {
     task = name;
-    $("task-head").textContent = t(name);
+    $("task-head").textContent = t(name).replace(/\s?…$/, "");
     $("task-what").textContent = t(`${name}What`);
     $("task-fields").replaceChildren(...TASKS[name].fields.map(taskField));
     Object.entries(values).forEach(([id, text]) => ($(`task-${id}`).value = text));
