@@ -95,9 +95,9 @@ export default {
     // changes that are not sent
     changes: edits,
     yourChanges: "Ihre Änderungen",
-    notYet: (number) => `${edits(number)}, noch nicht gesendet.`,
+    notYet: (number) => (number ? `${edits(number)}, noch nicht gesendet.` : "Es ist nichts mehr zu senden."),
     undo: "Rückgängig",
-    undone: (number) => `Rückgängig gemacht. ${edits(number)}, noch nicht gesendet.`,
+    undone: (number) => (number ? `Rückgängig gemacht. ${edits(number)}, noch nicht gesendet.` : "Rückgängig gemacht. Es ist nichts mehr zu senden."),
     takenOut: (number) => `${edits(number)} rückgängig gemacht.`,
     reviewButton: "Ansehen",
     review: "Ihre Änderungen, noch nicht gesendet",

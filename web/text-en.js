@@ -93,9 +93,9 @@ export default {
     // changes that are not sent
     changes: (number) => count(number, "change"),
     yourChanges: "Your changes",
-    notYet: (number) => `${count(number, "change")}, not sent yet.`,
+    notYet: (number) => (number ? `${count(number, "change")}, not sent yet.` : "Nothing is left to be sent."),
     undo: "Undo",
-    undone: (number) => `Undone. ${count(number, "change")}, not sent yet.`,
+    undone: (number) => (number ? `Undone. ${count(number, "change")}, not sent yet.` : "Undone. Nothing is left to be sent."),
     takenOut: (number) => `${count(number, "change")} undone.`,
     reviewButton: "Review",
     review: "Your changes, not sent yet",

@@ -94,9 +94,9 @@ export default {
     // changes that are not sent
     changes: edits,
     yourChanges: "Vos modifications",
-    notYet: (number) => `${edits(number)} à envoyer.`,
+    notYet: (number) => (number ? `${edits(number)} à envoyer.` : "Il ne reste rien à envoyer."),
     undo: "Défaire",
-    undone: (number) => `Défait. ${edits(number)} à envoyer.`,
+    undone: (number) => (number ? `Défait. ${edits(number)} à envoyer.` : "Défait. Il ne reste rien à envoyer."),
     takenOut: (number) => `${edits(number)} : défait.`,
     reviewButton: "Revoir",
     review: "Vos modifications, pas encore envoyées",
