@@ -360,6 +360,11 @@ def is_it_live(phys, named):
     said = [live_of(phys, named)]
     phys.edit("day21.physics", "192.0.2.85")
     phys.send()
+    is_waiting = "document.getElementById('live').textContent.startsWith('● Waiting: what you saved at ')"
+    phys.wait(is_waiting, "that it waits")
+    phys.open()
+    phys.wait("!document.getElementById('live').hidden", "the state")
+    expect("day 21, is it live: what was just saved waits, before the office's machine says so, and after a reload", phys.js(f"return {is_waiting}"), True)
     said.append(live_of(phys, named))
     found = named.dig(p("day21"))
     said.append(live_of(phys, named))

@@ -1,16 +1,30 @@
 // Whether what was changed is live: from the states that the office's machine writes for each user, where it does.
 
 import {$, make} from "./elements.js";
-import {mine} from "./office.js";
-import {announce, on, state} from "./state.js";
+import {askMine} from "./office.js";
+import {announce, on, state, store, stored} from "./state.js";
 import {ago, clock, t} from "./text.js";
 
 const EVERY = 30000; // milliseconds
+const LONGEST = 300000; // milliseconds after which the states know what was saved
 let states = null;
+let written = NaN; // when they were, by the front server's clock
+
+const savedKey = (zone) => `zoneoffice saved ${state.caller} ${zone}`;
+
+/** Keeps when the office saved something of this browser, by the front server's clock: states from before do not know it. */
+export const noteSaved = (zone, time) => store(savedKey(zone), {time, at: Date.now()});
+
+/** When that was, if the states are from before. */
+function savedSince() {
+    const saved = stored(savedKey(state.zone.origin));
+    return saved && written <= saved.time && Date.now() - saved.at < LONGEST ? saved.at : null;
+}
 
 function words({state: kind, serial, served, since, reason, change, caller, others}) {
     if (kind === "published") {
-        return ["good", t("isLive", serial, ago(since))];
+        const saved = savedSince();
+        return saved ? ["warn", t("isSaved", clock(saved), serial)] : ["good", t("isLive", serial, ago(since))];
     }
     if (kind === "waiting") {
         return ["warn", typeof served === "number" ? t("isWaiting", serial, served, ago(since)) : t("isNew", serial, ago(since))];
@@ -33,7 +47,8 @@ function show() {
 }
 
 export async function readLive() {
-    states = await mine("status");
+    const reply = await askMine("status");
+    [states, written] = reply.status === 200 ? [reply.json, reply.written] : [null, NaN];
     show();
     announce("status");
 }

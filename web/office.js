@@ -26,13 +26,14 @@ async function once(method, path, body) {
         } catch {
             json = null;
         }
-        return {status: got.status, json, caller: got.headers.get("X-Office-Caller")};
+        const [time, written] = ["Date", "Last-Modified"].map((field) => Date.parse(got.headers.get(field)));
+        return {status: got.status, json, caller: got.headers.get("X-Office-Caller"), time, written};
     } catch {
         return {status: 0, json: null};
     }
 }
 
-/** Sends a request, and gives its status (0: no reply came), its JSON, and as whom the front server took it. A question for which too
+/** Sends a request, and gives its status (0: no reply came), its JSON, as whom the front server took it, and when by its clock. A question for which too
  * many others are open is asked again a little later: those of a page that was just left count too. One without a reply is asked once
  * more, since a connection may end just when it is sent. */
 export async function request(method, path, body) {
@@ -46,9 +47,11 @@ export async function request(method, path, body) {
     }
 }
 
+export const askMine = (name) => request("GET", `${asCaller()}/page/my/${name}.json`);
+
 /** A file that the office's machine may make for each user, or null where it does not. */
 export async function mine(name) {
-    const {status, json} = await request("GET", `${asCaller()}/page/my/${name}.json`);
+    const {status, json} = await askMine(name);
     return status === 200 ? json : null;
 }
 

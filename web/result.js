@@ -8,7 +8,7 @@ import {state} from "./state.js";
 import {t} from "./text.js";
 import {lineOf, setKey} from "./zone.js";
 import {readRecords} from "./reading.js";
-import {readLive} from "./live.js";
+import {noteSaved, readLive} from "./live.js";
 import {draftOf, keepDraft} from "./draft.js";
 
 function show(kind, head, children, more = []) {
@@ -52,6 +52,8 @@ export function showMade(jobs, before, followed) {
     const isBad = followed.some(({reply}) => reply?.status !== 200);
     show(nothing ? "idle" : isBad ? "refused" : "made", t(nothing ? "nothingChanged" : isBad ? "madeInPart" : "made"), body);
     say(nothing ? t("nothingChanged") : t("madeSaid", ids.at(-1)));
+    const saved = [...(nothing ? [] : jobs), ...followed.filter(({reply}) => reply?.status === 200).map(({job}) => job)];
+    saved.forEach((job) => noteSaved(job.zone, job.saved));
     readLive();
 }
 

@@ -165,6 +165,7 @@ async function deliver(job) {
 function end(job, reply) {
     state.waiting.delete(job.id);
     if (reply.status === 200) {
+        job.saved = reply.time;
         takeOutMade(job.zone, job.keys ?? [], job.caller);
     } else {
         unmark(job.zone, job.id, job.caller);

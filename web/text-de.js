@@ -221,6 +221,7 @@ export default {
 
     // is it live
     isLive: "Veröffentlicht: Seriennummer {0}, {1}.",
+    isSaved: "Wartet: Was Sie um {0} gespeichert haben, ist unterwegs zu den Nameservern, die {1} hatten.",
     isNew: "Wartet: Seriennummer {0} ist unterwegs zu den Nameservern, die die Zone noch nicht haben ({1}).",
     isWaiting: "Wartet: Seriennummer {0} ist unterwegs zu den Nameservern, die {1} haben ({2}).",
     isHeld: "Nicht veröffentlicht: Die Nameserver lehnen „{0}“ ab ({1}). Niemandes Änderungen gelten, bis das rückgängig gemacht ist.",

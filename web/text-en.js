@@ -219,6 +219,7 @@ export default {
 
     // is it live
     isLive: "Live: serial {0}, {1}.",
+    isSaved: "Waiting: what you saved at {0} is on its way to the name servers, which had serial {1}.",
     isNew: "Waiting: serial {0} is on its way to the name servers, which do not have the zone yet ({1}).",
     isWaiting: "Waiting: serial {0} is on its way to the name servers, which have {1} ({2}).",
     isHeld: "Not published: the name servers refuse “{0}” ({1}). Nobody's changes go live until this is undone.",

@@ -220,6 +220,7 @@ export default {
 
     // is it live
     isLive: "En ligne : numéro de série {0}, {1}.",
+    isSaved: "En attente : ce que vous avez enregistré à {0} est en route vers les serveurs de noms, qui avaient {1}.",
     isNew: "En attente : le numéro de série {0} est en route vers les serveurs de noms, qui n’ont pas encore la zone ({1}).",
     isWaiting: "En attente : le numéro de série {0} est en route vers les serveurs de noms, qui ont {1} ({2}).",
     isHeld: "Pas publié : les serveurs de noms refusent « {0} » ({1}). Rien n’est publié, pour personne, tant que ce n’est pas défait.",
