@@ -173,7 +173,7 @@ class Browser:
         self.driver = webdriver.Chrome(service=Service("/usr/bin/chromedriver"), options=options)
         self.driver.set_page_load_timeout(120)
         self.driver.set_script_timeout(90)
-        self.user = user
+        self.user, self.stuck = user, 0
         self.driver.execute_cdp_cmd("Page.addScriptToEvaluateOnNewDocument", {"source": FRAMES})
         self.size(width, dark=dark)
         self.site = site or SITE
@@ -190,9 +190,15 @@ class Browser:
         )
 
     def open(self, view="records", ready="read at"):
-        """Loads the page anew and waits until the view is there."""
-        self.driver.get("about:blank")
-        self.driver.get(f"{self.site}/#{view}")
+        """Loads the page anew and waits until the view is there. A page that does not begin says so after 15 seconds, and is loaded again."""
+        for _ in range(3):
+            self.driver.get("about:blank")
+            self.driver.get(f"{self.site}/#{view}")
+            if wait_for(lambda: self.js("return document.body?.classList.contains('loading') === false"), 30):
+                break
+            self.stuck += 1
+            if not self.js("return getComputedStyle(document.querySelector('.stuck')).visibility === 'visible'"):
+                raise TimeoutError("the page does not begin, and does not say so")
         self.ready(ready)
 
     def ready(self, what="read at", seconds=90):
