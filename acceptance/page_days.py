@@ -214,7 +214,10 @@ def many_at_once(phys, named):
     phys.settled()
     expect("day 13, 70 records of a table: sent as several updates", phys.text("review-what"),
            "This is too much for one update. It is sent as 2 updates, one after the other; of each all is saved, or nothing.")
+    phys.js("window.said_ = []; new MutationObserver(() => window.said_.push(document.getElementById('status').textContent)).observe(document.getElementById('status'), {childList: true})")
     result = phys.send("#review-send", 600)
+    parts = phys.js("return window.said_.filter((text) => text.startsWith('Sending'))")
+    expect("it says which one it sends", parts, ["Sending part 1 of 2 …", "Sending part 2 of 2 …"])
     live = [named.dig(f"many{n}.physics.{ZONE}") for n in (1, 64, 70)]
     expect("all are live", (result, live, sum(row.startswith("many") for row in listed("phys"))), ("made", [["192.0.2.1"], ["192.0.2.64"], ["192.0.2.70"]], 70))
 
