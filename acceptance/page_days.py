@@ -275,6 +275,14 @@ def a_host_with_its_reverse(phys, named):
 @day
 def a_host_that_moves(phys, named):
     phys.view("records")
+    phys.press("#new-host")
+    phys.write("task-name", "day16.physics")
+    phys.write("task-addresses", "192.0.2.240/29 192.0.2.240/29")
+    phys.finish_task()
+    expect("day 16, two free addresses that are asked of one net are two", [line[:2] for line in phys.plan()],
+           [["day16.physics", "new A 192.0.2.242 1 h"], ["day16.physics", "new A 192.0.2.243 1 h"]])
+    phys.press("#undo")
+    phys.view("records")
     phys.begin("moveHost")
     phys.write("task-name", "day15.physics")
     phys.write("task-addresses", "192.0.2.245")

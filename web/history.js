@@ -1,5 +1,5 @@
-// What changed, who changed it and when, and how to take it back. What was read is kept in the browser; only what is new is asked for, so
-// that the office, which reads its history from the start for whoever asks for old numbers, keeps nobody waiting.
+// What changed, who changed it and when, and how to take it back. What was read is kept in the browser; only what is new is asked for,
+// since a long history keeps others waiting.
 
 import {$, afterTyping, button, code, make, say} from "./elements.js";
 import {putIn} from "./draft.js";

@@ -60,10 +60,10 @@ function joined(edits, pointers) {
 const number = (address) => address.split(".").reduce((sum, part) => sum * 256 + Number(part), 0);
 const dotted = (value) => [24, 16, 8, 0].map((shift) => Math.floor(value / 2 ** shift) % 256).join(".");
 
-/** The first address of an IPv4 net that no record has, nor a change that is not sent. */
-function nextFree(net) {
-    const used = new Set([...state.zone.records, ...state.draft.edits.map(({now}) => now).filter(Boolean)].filter((record) => record.type === "A" && isInNet(record, net))
-        .map(({data}) => number(data)));
+/** The first address of an IPv4 net that no record has, nor a change that is not sent, nor one of those that were read before. */
+function nextFree(net, before) {
+    const there = [...state.zone.records, ...state.draft.edits.map(({now}) => now).filter(Boolean), ...before];
+    const used = new Set(there.filter((record) => record.type === "A" && isInNet(record, net)).map(({data}) => number(data)));
     const first = parseInt(net.prefix.padEnd(32, "0"), 2);
     const size = 2 ** (32 - net.prefix.length);
     for (let at = first + Number(size > 2); at < first + size - Number(size > 2); at++) {
@@ -75,17 +75,21 @@ function nextFree(net) {
 }
 
 function readAddresses(typed) {
-    const read = typed.split(/[\s,]+/).filter(Boolean).map((item) => {
+    const addresses = [];
+    for (const item of typed.split(/[\s,]+/).filter(Boolean)) {
         const net = readNet(item);
-        const data = net?.type === "A" ? nextFree(net) : item;
+        const data = net?.type === "A" ? nextFree(net, addresses) : item;
         if (data === null) {
             return {fault: "netFull", item};
         }
         const type = data.includes(":") ? "AAAA" : "A";
         const {text, fault} = (type === "A" ? readIpv4 : readIpv6)(data);
-        return fault ? {fault, item} : {type, data: text};
-    });
-    return read.find(({fault}) => fault) ?? {addresses: read};
+        if (fault) {
+            return {fault, item};
+        }
+        addresses.push({type, data: text});
+    }
+    return {addresses};
 }
 
 // ---- the tasks
