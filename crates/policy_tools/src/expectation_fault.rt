@@ -11,7 +11,7 @@ use std::fmt::{self, Display, Formatter, Write};
 /// What is wrong with a line.
 #[derive(Clone, Copy)]
 pub enum ExpectationFault {
-    /// The words are none of `granted CALLER NAME TYPE ACTION [by RULE]`, the same with `denied`, and
+    /// The words are not `granted CALLER NAME TYPE ACTION [by RULE]`, the same with `denied`, or
     /// `only CALLER.. may ACTION TYPE at NAME`, with `nobody`, `within` or `below` for some of them.
     Form,
     /// A word is no identifier of a caller, or `nobody` is one of several.

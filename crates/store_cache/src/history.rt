@@ -61,6 +61,19 @@ impl Point {
     }
 }
 
+/// Up to how many owners and types take no more memory than they need. Most changes touch one or two.
+const FEW: usize = 4;
+
+/// Makes room for one more, and for no other where there are few. The only error is out of memory.
+fn reserve_one(points: &mut Vec<Point>) -> Result<(), AllocError>
+    ensures { points.new.items ≡ points.old.items }
+{
+    if points.len() < FEW {
+        points.reserve_exact(1)?;
+    }
+    Ok(())
+}
+
 /// Appends the owner and the type of a record, if they are not like the last ones. The only error is out of memory.
 fn push_point(alloc: Global, points: &mut Vec<Point>, rr: &Record) -> Result<(), AllocError>
     ensures { OnOk result
@@ -74,6 +87,7 @@ fn push_point(alloc: Global, points: &mut Vec<Point>, rr: &Record) -> Result<(),
     }
     let owner = rr.owner.try_copy(alloc)?;
     let record_type = rr.record_type();
+    reserve_one(points)?;
     points.push(Point { owner, record_type })?;
     Ok(())
 }
@@ -359,8 +373,8 @@ impl ZoneHistory {
     }
 }
 
-/// About how many octets of memory a change takes, and each owner and type that it touches.
-const CHANGE: usize = 48;
+/// About how many octets of memory a change takes, with the room after the last one, and each owner and type that it touches.
+const CHANGE: usize = 72;
 
 const POINT: usize = 128;
 

@@ -77,9 +77,10 @@ impl<T: OfZone + Drop> Shelf<T> {
         while self.take(origin).is_some() {}
     }
 
-    /// Whether what is kept takes too much, or is of too many zones.
+    /// Whether what is kept takes too much, or is of too many zones. One stays, however large: else who asks for another zone, with
+    /// rights there or without, would have it read again.
     fn is_over(&self) -> bool {
-        self.size > self.room || self.kept.len() > MOST
+        self.kept.len() > 1 && (self.size > self.room || self.kept.len() > MOST)
     }
 
     /// Drops the oldest until the others have room.
