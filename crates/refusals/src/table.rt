@@ -470,7 +470,7 @@ pub(crate) static POLICIES: [(&str, Kind, &str, &str, &str, &str, &str); 8] = [
 ];
 
 /// Updates and stores.
-pub(crate) static STORES: [(&str, Kind, &str, &str, &str, &str, &str); 7] = [
+pub(crate) static STORES: [(&str, Kind, &str, &str, &str, &str, &str); 8] = [
     (
         "61",
         Kind::Whole,
@@ -532,6 +532,15 @@ pub(crate) static STORES: [(&str, Kind, &str, &str, &str, &str, &str); 7] = [
         "the store has rows that zoneoffice does not write",
         "The store has a row that this program does not write: somebody else changed it, or the disk did.",
         "Keep the file as it is, and restore a backup. Do not edit a store by hand.",
+        "",
+    ),
+    (
+        "77",
+        Kind::Whole,
+        "no such change",
+        "the zone has no change of this number",
+        "The zone was not changed so often. Its first change has the number 1, and 0 is the zone as it was imported.",
+        "Check the number. log prints the changes with theirs, and zones how many there are.",
         "",
     ),
 ];

@@ -42,7 +42,7 @@ pub use outermost_names::outermost;
 pub use prerequisite_code::PrerequisiteCode;
 pub use rcode::Rcode;
 pub use report::{DelegatedServer, Delegation, Glue, cuts, delegation_report, servers};
-pub use rows::has_type;
+pub use rows::{has_type, in_order};
 pub use serial::{serial_add, serial_less};
 pub use update::{ItemList, Operation, Place, Prerequisite, Update};
 pub use verdict::{Failed, holds};

@@ -174,7 +174,7 @@ pub(crate) fn in_order_behind(
 }
 
 /// The records in record order, and of those that are the same the first. The only error is out of memory.
-pub(crate) fn in_order(alloc: Global, records: Vec<Record>) -> Result<Vec<Record>, AllocError>
+pub fn in_order(alloc: Global, records: Vec<Record>) -> Result<Vec<Record>, AllocError>
     ensures order { IfOk result (λ rows. InOrder rows.items) }
     ensures set { IfOk result (λ rows. set_of rows.items ≡ set_of records.items) }
 {
