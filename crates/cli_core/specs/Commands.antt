@@ -24,6 +24,9 @@ argument_row argument.Type = (codes "type", Place)
 argument_row argument.Action = (codes "action", Place)
 argument_row argument.Listen = (codes "listen", Needed)
 argument_row argument.Replace = (codes "replace", Flag)
+argument_row argument.At = (codes "at", Number)
+argument_row argument.Changed = (codes "change", Number)
+argument_row argument.To = (codes "to", Number)
 argument_row argument.Relative = (codes "relative", Flag)
 argument_row argument.Connections = (codes "connections", Number)
 argument_row argument.Patience = (codes "patience", Number)
@@ -33,6 +36,8 @@ argument_row argument.Number = (codes "number", OptionalPlace)
 argument_row argument.Subject = (codes "subject", Place)
 argument_row argument.CheckedPolicy = (codes "policy", Asked)
 argument_row argument.Against = (codes "against", Optional)
+argument_row argument.Zones = (codes "zones", Optional)
+argument_row argument.Reader = (codes "reader", Optional)
 argument_row argument.CheckedOrigin = (codes "origin", Asked)
 argument_row argument.CheckedName = (codes "name", OptionalPlace)
 argument_row argument.Isolated = (codes "caller", Asked)
@@ -70,9 +75,11 @@ command_row command.Canon = (codes "canon", argument.Origin ∷ argument.Relativ
 command_row command.Diff = (codes "diff", argument.Origin ∷ argument.Guard ∷ argument.GuardSets ∷ argument.Old ∷ argument.New ∷ [])
 command_row command.Request = (codes "request", argument.Id ∷ argument.Split ∷ [])
 command_row command.Import = (codes "import", argument.Store ∷ argument.Origin ∷ argument.Replace ∷ [])
-command_row command.Export = (codes "export", argument.Store ∷ argument.Origin ∷ argument.Relative ∷ [])
+command_row command.Export = (codes "export", argument.Store ∷ argument.Origin ∷ argument.At ∷ argument.Relative ∷ [])
 command_row command.Zones = (codes "zones", argument.Store ∷ [])
 command_row command.Log = (codes "log", argument.Store ∷ argument.Origin ∷ argument.From ∷ argument.Within ∷ argument.Asker ∷ [])
+command_row command.Blame = (codes "blame", argument.Store ∷ argument.Origin ∷ argument.Within ∷ [])
+command_row command.Undo = (codes "undo", argument.Store ∷ argument.Origin ∷ argument.Changed ∷ argument.To ∷ [])
 command_row command.Migrate = (codes "migrate", argument.Store ∷ [])
 command_row command.Rights =
     (codes "rights", argument.Policy ∷ argument.Caller ∷ argument.Name ∷ argument.Type ∷ argument.Action ∷ [])
@@ -80,7 +87,7 @@ command_row command.Plan = (codes "plan", argument.Policy ∷ argument.Caller �
 command_row command.Serve =
     (codes "serve", argument.Store ∷ argument.Policy ∷ argument.Listen ∷ argument.Connections ∷ argument.Patience ∷ argument.Longest ∷ argument.Memory ∷ [])
 command_row command.Check =
-    (codes "check", argument.Subject ∷ argument.CheckedName ∷ argument.CheckedPolicy ∷ argument.Against ∷ argument.Isolated ∷ argument.CheckedOrigin ∷ argument.Only ∷ argument.Not ∷ argument.Server ∷ argument.Most ∷ argument.Warn ∷ [])
+    (codes "check", argument.Subject ∷ argument.CheckedName ∷ argument.CheckedPolicy ∷ argument.Against ∷ argument.Zones ∷ argument.Reader ∷ argument.Isolated ∷ argument.CheckedOrigin ∷ argument.Only ∷ argument.Not ∷ argument.Server ∷ argument.Most ∷ argument.Warn ∷ [])
 command_row command.Answer = (codes "answer", argument.Origin ∷ argument.File ∷ argument.AskedName ∷ argument.AskedType ∷ [])
 command_row command.Reverse = (codes "reverse", argument.Origin ∷ argument.File ∷ [])
 command_row command.Explain = (codes "explain", argument.Number ∷ argument.Json ∷ [])
@@ -93,8 +100,8 @@ arguments_of c = (command_row c).1
 
 abbrev pub all_commands : List Command
 all_commands =
-    command.Apply ∷ command.Canon ∷ command.Diff ∷ command.Request ∷ command.Import ∷ command.Export ∷ command.Zones ∷ command.Log ∷ command.Migrate
-    ∷ command.Rights ∷ command.Plan ∷ command.Serve ∷ command.Check ∷ command.Answer ∷ command.Reverse ∷ command.Explain ∷ []
+    command.Apply ∷ command.Canon ∷ command.Diff ∷ command.Request ∷ command.Import ∷ command.Export ∷ command.Zones ∷ command.Log ∷ command.Blame
+    ∷ command.Undo ∷ command.Migrate ∷ command.Rights ∷ command.Plan ∷ command.Serve ∷ command.Check ∷ command.Answer ∷ command.Reverse ∷ command.Explain ∷ []
 
 -- the command that a word names
 abbrev pub command_of : Text → Option Command

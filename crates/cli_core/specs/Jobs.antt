@@ -90,8 +90,16 @@ subject word = (argument.Subject, given word)
 -- ---- the table of jobs
 
 abbrev pub asks_check : Check → JobOf
-asks_check (check.Policy policy against) =
-    (command.Check, subject (codes "policy") ∷ (argument.CheckedPolicy, given policy.now) ∷ (argument.Against, text (option_map (λ p. p.now) against)) ∷ [])
+asks_check (check.Policy policy against) = (
+  command.Check,
+  subject (codes "policy") ∷ (argument.CheckedPolicy, given policy.now) ∷ (argument.Against, text (option_map (λ p. p.now) against))
+      ∷ (argument.Zones, text None) ∷ (argument.Reader, text None) ∷ [],
+)
+asks_check (check.Scopes policy zones reader) = (
+  command.Check,
+  subject (codes "policy") ∷ (argument.CheckedPolicy, given policy.now) ∷ (argument.Against, text None) ∷ (argument.Zones, given zones.now)
+      ∷ (argument.Reader, text (option_map (λ r. r.now) reader)) ∷ [],
+)
 asks_check (check.Isolation policy caller) =
     (command.Check, subject (codes "isolation") ∷ (argument.CheckedPolicy, given policy.now) ∷ (argument.Isolated, given caller.now) ∷ [])
 asks_check (check.Rights policy name) =
@@ -130,13 +138,15 @@ stored zone gs = (argument.Store, given zone.store.now) ∷ (argument.Origin, gi
 
 abbrev pub asks_store : StoreJob → JobOf
 asks_store (store_job.Import w) = (command.Import, stored w.zone ((argument.Replace, flag (is_replaced w.existing)) ∷ []))
-asks_store (store_job.Export w) = (command.Export, stored w.zone ((argument.Relative, flag (is_relative w.form)) ∷ []))
+asks_store (store_job.Export w) = (command.Export, stored w.zone ((argument.At, number w.at) ∷ (argument.Relative, flag (is_relative w.form)) ∷ []))
 asks_store (store_job.Zones w) = (command.Zones, (argument.Store, given w.store.now) ∷ [])
 asks_store (store_job.Log w) = (
   command.Log,
   stored w.zone ((argument.From, number w.choice.from) ∷ (argument.Within, text (option_map (λ n. n.now) w.choice.name))
       ∷ (argument.Asker, text (option_map (λ c. c.now) w.choice.caller)) ∷ []),
 )
+asks_store (store_job.Blame w) = (command.Blame, stored w.zone ((argument.Within, text (option_map (λ n. n.now) w.name)) ∷ []))
+asks_store (store_job.Undo w) = (command.Undo, stored w.zone ((argument.Changed, number w.first) ∷ (argument.To, number w.last) ∷ []))
 asks_store (store_job.Migrate w) = (command.Migrate, (argument.Store, given w.store.now) ∷ [])
 asks_store (store_job.Serve w) = (
   command.Serve,

@@ -18,7 +18,7 @@ use Rattle.grant_policy.specs.Faults.{fault_number as policy_number}
 use Rattle.cli_core.specs.declared.word_fault.WordFault.{WordFault}
 use Rattle.cli_core.specs.declared.word_fault.WordFault.TheVariants as of_word
 use Rattle.cli_core.specs.declared.refusal.Refusal.{Refusal}
-use Rattle.cli_core.specs.declared.refusal.Refusal.TheVariants.{Name, TypeNotKept, NoCaller, NoAction, NoRule, NoServer, TooLarge, NoDivider, Master, Zone, Policy, Items, Unmet, Line, UnknownNumber, NoIdentifier, BodyTooLarge, Store}
+use Rattle.cli_core.specs.declared.refusal.Refusal.TheVariants.{Name, TypeNotKept, NoCaller, NoAction, NoRule, NoServer, TooLarge, NoDivider, Master, Zone, Policy, Items, Unmet, Line, UnknownNumber, NoIdentifier, BodyTooLarge, NoChange, Store}
 
 -- ---- numbers: that of a refusal, and after it that of the refusal within it
 
@@ -55,6 +55,7 @@ refusal_number NoDivider = 96
 refusal_number UnknownNumber = 98
 refusal_number NoIdentifier = 88
 refusal_number BodyTooLarge = 84
+refusal_number NoChange = 77
 refusal_number (Master fault) = master_number fault
 refusal_number (Zone fault) = zone_fault_number fault
 refusal_number (Policy fault) = policy_number fault

@@ -13,7 +13,7 @@ use Rattle.cli_core.specs.declared.commands.Command.TheVariants as command
 -- what `check` reads, by the word of its subject
 abbrev pub subjects : List (Text × List Argument)
 subjects =
-    (codes "policy", argument.CheckedPolicy ∷ argument.Against ∷ [])
+    (codes "policy", argument.CheckedPolicy ∷ argument.Against ∷ argument.Zones ∷ argument.Reader ∷ [])
     ∷ (codes "isolation", argument.CheckedPolicy ∷ argument.Isolated ∷ [])
     ∷ (codes "rights", argument.CheckedName ∷ argument.CheckedPolicy ∷ [])
     ∷ (codes "expect", argument.CheckedName ∷ argument.CheckedPolicy ∷ [])
@@ -45,7 +45,8 @@ is_input _ = false
 
 -- whether values go together: one of two files at most is standard input, and prerequisites are of one scope; an update has an identifier,
 -- or what stands before those of its parts, and only one of them; standard input is not both a zone and the questions to it, which have
--- their types; and a zone is not checked both by one rule only and by all but one
+-- their types; a zone is not checked both by one rule only and by all but one; and a policy is not checked both against another and beside
+-- zones, and a reader is given with zones only
 abbrev pub go_together : Command → List Given → Bool
 go_together command.Diff gs =
     not (is_input (value_of argument.Old gs) && is_input (value_of argument.New gs))
@@ -55,7 +56,9 @@ go_together command.Answer gs =
     && not (is_input (value_of argument.AskedName gs) && is_given (value_of argument.AskedType gs))
 go_together command.Request gs =
     if is_given (value_of argument.Id gs) then not (is_given (value_of argument.Split gs)) else is_given (value_of argument.Split gs)
-go_together command.Check gs = not (is_given (value_of argument.Only gs) && is_given (value_of argument.Not gs))
+go_together command.Check gs =
+    not (is_given (value_of argument.Only gs) && is_given (value_of argument.Not gs))
+    && (if is_given (value_of argument.Zones gs) then not (is_given (value_of argument.Against gs)) else not (is_given (value_of argument.Reader gs)))
 go_together c gs = true
 
 abbrev pub job_with : Command → List Given → Option JobOf

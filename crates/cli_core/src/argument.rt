@@ -19,6 +19,9 @@ pub enum Argument {
     Action,
     Listen,
     Replace,
+    At,
+    Changed,
+    To,
     Relative,
     Connections,
     Patience,
@@ -28,6 +31,8 @@ pub enum Argument {
     Subject,
     CheckedPolicy,
     Against,
+    Zones,
+    Reader,
     CheckedOrigin,
     CheckedName,
     Isolated,
@@ -132,6 +137,21 @@ impl Argument {
                 form: Form::Flag,
                 help: "In the place of the zone there",
             },
+            Argument::At => &Row {
+                name: "at",
+                form: Form::Number,
+                help: "As it was after the change of this number, or with 0 as it was imported",
+            },
+            Argument::Changed => &Row {
+                name: "change",
+                form: Form::Number,
+                help: "The number of the change to undo, the last one if left out",
+            },
+            Argument::To => &Row {
+                name: "to",
+                form: Form::Number,
+                help: "Undo all changes from that one to this, that one only if left out",
+            },
             Argument::Relative => &Row {
                 name: "relative",
                 form: Form::Flag,
@@ -176,6 +196,16 @@ impl Argument {
                 name: "against",
                 form: Form::Optional,
                 help: "The path of the policy as it is, to see what the other changes",
+            },
+            Argument::Zones => &Row {
+                name: "zones",
+                form: Form::Optional,
+                help: "The path of a list of zones, or - for standard input, to check the policy beside them",
+            },
+            Argument::Reader => &Row {
+                name: "reader",
+                form: Form::Optional,
+                help: "With --zones: a caller that is to list all of them, as publish does",
             },
             Argument::CheckedOrigin => &Row {
                 name: "origin",

@@ -8,6 +8,7 @@ ghost use Rattle.cli_core.specs.Words.{job_by};
 
 mod answer;
 mod apply;
+mod blame;
 mod canon;
 mod check;
 mod diff;
@@ -21,12 +22,14 @@ mod request;
 mod reverse;
 mod rights;
 mod serve;
+mod undo;
 mod zones;
 
 use crate::argument::Argument;
 use crate::job::Job;
 pub use answer::Answer;
 use apply::Apply;
+pub use blame::Blame;
 pub use canon::Canon;
 pub use check::Check;
 use clap::ArgMatches;
@@ -41,6 +44,7 @@ pub use request::Request;
 pub use reverse::Reverse;
 pub use rights::Rights;
 pub use serve::Service;
+pub use undo::Undo;
 pub use zones::Zones;
 
 /// A command of the program: the first word of the command line.
@@ -54,6 +58,8 @@ pub enum Command {
     Export,
     Zones,
     Log,
+    Blame,
+    Undo,
     Migrate,
     Rights,
     Plan,
@@ -90,7 +96,7 @@ impl Command {
     ghost use Rattle.cli_core.specs.Help.{command_about, command_example};
 
     /// The commands, in the order of the help.
-    pub const ALL: [Command; 16] = [
+    pub const ALL: [Command; 18] = [
         Command::Apply,
         Command::Canon,
         Command::Diff,
@@ -99,6 +105,8 @@ impl Command {
         Command::Export,
         Command::Zones,
         Command::Log,
+        Command::Blame,
+        Command::Undo,
         Command::Migrate,
         Command::Rights,
         Command::Plan,
@@ -125,6 +133,8 @@ impl Command {
             Command::Export => &export::ROW,
             Command::Zones => &zones::ROW,
             Command::Log => &log::ROW,
+            Command::Blame => &blame::ROW,
+            Command::Undo => &undo::ROW,
             Command::Migrate => &migrate::ROW,
             Command::Rights => &rights::ROW,
             Command::Plan => &plan::ROW,
@@ -187,6 +197,8 @@ impl Command {
             Command::Export => Export::read(matches),
             Command::Zones => Zones::read(matches),
             Command::Log => Log::read(matches),
+            Command::Blame => Blame::read(matches),
+            Command::Undo => Undo::read(matches),
             Command::Migrate => Migrate::read(matches),
             Command::Rights => Rights::read(matches),
             Command::Plan => Plan::read(matches),

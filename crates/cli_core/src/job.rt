@@ -1,8 +1,8 @@
 //! What the program is to do.
 
 use crate::commands::{
-    Answer, Canon, Check, Diff, Explain, Export, Import, Log, Migrate, Plan, Request, Reverse,
-    Rights, Service, Zones,
+    Answer, Blame, Canon, Check, Diff, Explain, Export, Import, Log, Migrate, Plan, Request,
+    Reverse, Rights, Service, Undo, Zones,
 };
 
 /// What the program is to do.
@@ -50,6 +50,10 @@ pub enum StoreJob<'a> {
     Zones(Zones<'a>),
     /// To print the changes and the receipts of a zone of a store.
     Log(Log<'a>),
+    /// To print the records of a zone of a store with the changes that brought them.
+    Blame(Blame<'a>),
+    /// To print the items that undo changes of a zone of a store.
+    Undo(Undo<'a>),
     /// To take a store from version 1 of the tables to version 2.
     Migrate(Migrate<'a>),
     /// To answer callers over HTTP.
@@ -145,7 +149,7 @@ pub struct ZoneRules<'a> {
     pub advice: Advice,
 }
 
-/// A zone of a store, as the words of `import`, of `export` and of `log` name it.
+/// A zone of a store, as the words of `import`, `export`, `log`, `blame` and `undo` name it.
 #[derive(Clone, Copy)]
 pub struct StoredZone<'a> {
     /// The path of the store.

@@ -62,6 +62,8 @@ pub enum Refusal {
     NoIdentifier,
     /// The body of the update has more than 65,536 octets.
     BodyTooLarge,
+    /// A number of the command line is that of no change of the zone.
+    NoChange,
     /// The store refuses it, or failed.
     Store(StoreFault),
 }
@@ -81,6 +83,7 @@ impl Refusal {
             Refusal::UnknownNumber => 98,
             Refusal::NoIdentifier => 88,
             Refusal::BodyTooLarge => 84,
+            Refusal::NoChange => 77,
             Refusal::Master(fault) => fault.number(),
             Refusal::Zone(fault) => fault.number(),
             Refusal::Policy(fault) => fault.number(),

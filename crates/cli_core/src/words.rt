@@ -62,6 +62,8 @@ fn mistake_in(matches: &ArgMatches<'_>) -> &'static str {
             "only one of OLD and NEW can be -, which is standard input, and only one kind of --guard is given",
         Some(("answer", _)) =>
             "only one of FILE and NAME can be -, which is standard input; questions there have their types",
+        Some(("check", _)) =>
+            "a policy is checked --against another or beside --zones, a --reader only beside these; a zone by --only one rule or by all but one --not",
         Some(("request", _)) => "one of --id and --split is needed, and only one of them",
         _ => "the words name no job: see the example of zoneoffice COMMAND --help",
     }
@@ -120,11 +122,12 @@ fn reported(alloc: Global, words: &[&str], error: Error) -> WordsFault
 
 /// The job that the words after the program's name ask for: none or `apply`; `canon --origin NAME [--relative]`;
 /// `diff --origin NAME [--guard | --guard-sets] OLD NEW`, where only one of the two can be `-`; `request (--id ID | --split ID)`;
-/// `import --store PATH --origin NAME [--replace]`; `export --store PATH --origin NAME [--relative]`; `zones --store PATH`;
-/// `log --store PATH --origin NAME [--from N] [--name NAME] [--caller CALLER]`; `migrate --store PATH`;
+/// `import --store PATH --origin NAME [--replace]`; `export --store PATH --origin NAME [--at N] [--relative]`; `zones --store PATH`;
+/// `log --store PATH --origin NAME [--from N] [--name NAME] [--caller CALLER]`; `blame --store PATH --origin NAME [--name NAME]`;
+/// `undo --store PATH --origin NAME [--change N] [--to N]`; `migrate --store PATH`;
 /// `rights --policy PATH --caller CALLER NAME TYPE ACTION`; `plan --policy PATH --caller CALLER`;
 /// `serve --store PATH --policy PATH --listen ADDRESS:PORT [--connections N] [--patience SECONDS] [--longest SECONDS] [--memory MB]`;
-/// `check policy --policy PATH [--against PATH]`; `check expect [FILE] --policy PATH`; `check isolation --policy PATH --caller CALLER`;
+/// `check policy --policy PATH [--against PATH | --zones PATH [--reader CALLER]]`; `check expect [FILE] --policy PATH`; `check isolation --policy PATH --caller CALLER`;
 /// `check rights [NAME] --policy PATH`; `check zone --origin NAME [--only RULE | --not RULE] [--server SERVER] [--most N] [--warn]`;
 /// `answer --origin NAME FILE NAME [TYPE]`, where only one of file and name can be `-`, and a type is of a name;
 /// `reverse --origin NAME FILE`; and `explain [NUMBER] [--json]`. The words after a command may come in any order.

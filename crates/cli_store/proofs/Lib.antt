@@ -7,6 +7,7 @@ pub mod ZoneListLaws
 pub mod TextExamples
 pub mod ListLemmas
 pub mod LoggedLemmas
+pub mod HistoryLemmas
 pub mod StreamLemmas
 pub mod ServedLemmas
 pub mod DeedLemmas

@@ -1,13 +1,14 @@
 -- The history of starts on one disk.
-use Rattle.std.proofs.Common.{◌≡◌, ◌⊎◌, ◌∙◌, ℕ, Bool, List, [], ◌∷◌, ◌++◌, Option, Some, None, Result, Ok, Err, IfSome, ◌<◌, refl, sym, ap, subst, inl, inr, append-nil}
+use Rattle.std.proofs.Common.{◌≡◌, ◌⊎◌, ◌∙◌, ℕ, Bool, List, [], ◌∷◌, ◌++◌, Option, Some, None, option_map, Result, Ok, Err, IfSome, ◌<◌, refl, sym, ap, subst, inl, inr, append-nil}
 use Rattle.std.specs.Io.KnownBytes.{Appends}
 use Rattle.sqlite_trees.specs.Tree.{Trees}
 use Rattle.sqlite.specs.State.{State as Shown, HasCleanDisk}
 use Rattle.zone_core.specs.Zones.{ZoneOf}
+use Rattle.dns_names.specs.Reading.{absolute_name}
 use Rattle.dns_data.specs.declared.record.Record.{Record}
 use Rattle.grant_policy.specs.declared.rule.Rule.{Rule}
 use Rattle.office_model.specs.declared.request.Call.{Call}
-use Rattle.office_model.specs.States.{State}
+use Rattle.office_model.specs.States.{Held, State}
 use Rattle.office_model.specs.Tables.{Keeps, Kept, LeavesOr}
 use Rattle.office_core.specs.Histories.{ruled, state_after_all}
 use Rattle.store_faults.specs.declared.store_fault.StoreFault.{StoreFault}
@@ -17,7 +18,9 @@ use Rattle.office_wire.specs.Promises.{calls}
 use Rattle.office_wire.specs.Lifetimes.{Lifetime, IsLeftBy, AreAcknowledged, IsHand, history as lived}
 use Rattle.office_wire.proofs.CrashLemmas.{crashes_leave_one_more}
 use Rattle.office_wire.proofs.LifetimeLemmas.{histories_are_one}
-use Rattle.cli_core.specs.LineFaults.{Makes, of_store}
+use Rattle.cli_core.specs.LineFaults.{Makes, of_names, of_store}
+use Rattle.cli_core.specs.declared.job.ZoneForm.{ZoneForm}
+use Rattle.cli_core.specs.declared.refusal.Refusal.{Refusal}
 use Rattle.cli_core.specs.declared.commands.serve.Service.{Service}
 use Rattle.cli_core.specs.declared.job.Existing.{Existing}
 use Rattle.cli_core.specs.declared.job.Existing.TheVariants.{Kept as Beside, Replaced}
@@ -40,6 +43,7 @@ use Rattle.wire_tcp.specs.Limits.{Limits}
 use Rattle.cli_store.specs.Serve.{TableAt, policy_read, most_of, parties_of, limits_by, asked_by, IsServiceTold, IsServedBy, BeginsBy, Serves}
 use Rattle.cli_store.specs.StoreList.{IsListRead, ZonesPrinted}
 use Rattle.cli_store.specs.StoreLog.{IsLogged, IsLogRead, LogPrinted}
+use Rattle.cli_store.specs.ZoneHistory.{blame_asked, blame_text, past_text, undo_text, BlamePrinted, ExportEnds, IsHistoryRead, IsToldOf, UndoPrinted}
 use Rattle.cli_store.specs.Stores.{StoresOf, IsRead, IsPut, IsUnopened, IsReached, IsUnreached, IsStored, IsGot, IsMigratedStore, stores_of}
 use Rattle.cli_store.specs.Starts.{HasState, held, Deed, put, state_after_deeds, called_by, Setting, Start, IsStart, MayFollow, AreStarts, Course, deeds_of, IsNothing, IsZoneMade, IsZoneInHand, IsZoneRefused, IsUnserved, moment_of, IsServed, JobMakes, IsCourse, AreCourses, history, StartsHaveOneHistory}
 use Rattle.cli_store.proofs.DeedLemmas.{after_more, called_are, called_more}
@@ -332,6 +336,19 @@ module _ {A F C H P : Type 0} (w : Setting A F C H P) (law : (conn : C) → Sett
     logged path word choice (Err fault) (inr (asked, e, inl (none, (log, holds)))) = got path (IsLogRead asked.origin) (λ now after r does. does.0.0) (Ok log) holds
     logged path word choice (Err fault) (inr (asked, e, inr (refusal, fault_is, holds))) = got path (IsLogRead asked.origin) (λ now after r does. does.0.0) (Err refusal) holds
 
+    told_of : {A : Type 0} (path : List ℕ) (words : Result A Refusal) (origin : A → List (List ℕ)) (answer : A → Held → Result (List ℕ) Refusal) (made : Result (List ℕ) LineFault)
+        → IsToldOf w.shows words origin answer (w.finds st.files path) (w.refuses st.files path) (w.connects st.files path) st.left made → HasState next s
+    told_of path words origin answer (Ok text) (asked, e, (held, holds, text_is)) = got path (IsHistoryRead (origin asked)) (λ now after r does. does.0.0) (Ok held) holds
+    told_of path words origin answer (Err fault) (inl (given, none)) = unread none
+    told_of path words origin answer (Err fault) (inr (asked, e, inl (held, holds, none))) = got path (IsHistoryRead (origin asked)) (λ now after r does. does.0.0) (Ok held) holds
+    told_of path words origin answer (Err fault) (inr (asked, e, inr (refusal, fault_is, holds))) = got path (IsHistoryRead (origin asked)) (λ now after r does. does.0.0) (Err refusal) holds
+
+    exported_by : (path word : List ℕ) (at : Option ℕ) (form : ZoneForm) (old new : Option (List ℕ)) (result : Result (Unit {0}) JobFault) (writes writes_after : ℕ)
+        → ExportEnds (stores_of w.shows (w.finds st.files) (w.refuses st.files) (w.connects st.files)) path word at form st.left old new result writes writes_after → HasState next s
+    exported_by path word None form old new result writes writes_after (written, (made, is_made, told)) = exported path word made is_made
+    exported_by path word (Some number) form old new result writes writes_after (made, is_made, told) =
+        told_of path (of_names (absolute_name word)) (λ origin. origin) (past_text form number) made is_made
+
     -- ---- a start
 
     abbrev Stores : StoresOf C
@@ -344,11 +361,16 @@ module _ {A F C H P : Type 0} (w : Setting A F C H P) (law : (conn : C) → Sett
     stored_job (store_job.Import words) status (idle, (outcome, (written, (made, is_made, told)), status_is)) =
         comes_so s next (λ c all. (outcome, all, status_is))
         (imported words.zone.store.now words.zone.origin.now words.existing outcome made (st.input.after ≡ st.input.before) (st.input.before < st.input.after) is_made told)
-    stored_job (store_job.Export words) status (idle, unread, (outcome, (written, (made, is_made, told)), status_is)) = stays s next (exported words.zone.store.now words.zone.origin.now made is_made)
+    stored_job (store_job.Export words) status (idle, unread, (outcome, ends, status_is)) =
+        stays s next (exported_by words.zone.store.now words.zone.origin.now words.at words.form st.output.old st.output.new outcome st.output.before st.output.after ends)
     stored_job (store_job.Zones words) status (idle, unread, (outcome, (r, is_got, told), status_is)) =
         stays s next (got words.store.now IsListRead (λ now after r does. does.0.0) r is_got)
     stored_job (store_job.Log words) status (idle, unread, (outcome, (made, is_made, told), status_is)) =
         stays s next (logged words.zone.store.now words.zone.origin.now words.choice made is_made)
+    stored_job (store_job.Blame words) status (idle, unread, (outcome, (made, is_made, told), status_is)) =
+        stays s next (told_of words.zone.store.now (blame_asked words.zone.origin.now (option_map (λ n. n.now) words.name)) (λ asked. asked.origin) (λ asked held. Ok (blame_text asked held)) made is_made)
+    stored_job (store_job.Undo words) status (idle, unread, (outcome, (made, is_made, told), status_is)) =
+        stays s next (told_of words.zone.store.now (of_names (absolute_name words.zone.origin.now)) (λ origin. origin) (undo_text (record { first = words.first; last = words.last })) made is_made)
     stored_job (store_job.Migrate words) status (idle, unread, (outcome, (written, (made, is_made, told)), status_is)) = stays s next (migrates words.store.now made is_made)
     stored_job (store_job.Serve service) status (unread, (outcome, is_served, status_is)) = comes_so s next (λ c all. (outcome, all, status_is)) (serves service outcome is_served)
 

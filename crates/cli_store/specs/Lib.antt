@@ -9,6 +9,7 @@ pub mod Log
 pub mod ZoneList
 pub mod StoreLog
 pub mod StoreList
+pub mod ZoneHistory
 pub mod Serve
 pub mod Program
 pub mod Starts

@@ -50,7 +50,7 @@ use Rattle.wire_tcp.specs.Connections.{Writing}
 use Rattle.cli_store.specs.Around.{Around, Callers}
 use Rattle.cli_store.specs.Stores.{StoresOf}
 use Rattle.cli_store.specs.Import.{ImportWritten, ZoneStored}
-use Rattle.cli_store.specs.Export.{ExportWritten, ZoneExported}
+use Rattle.cli_store.specs.ZoneHistory.{BlamePrinted, ExportEnds, UndoPrinted}
 use Rattle.cli_store.specs.Migrate.{MigrationWritten, StoreMigrated}
 use Rattle.cli_store.specs.StoreList.{ZonesPrinted}
 use Rattle.cli_store.specs.StoreLog.{LogPrinted}
@@ -203,12 +203,17 @@ StoreJobEnds a p s i o t (store_job.Import w) left status =
     IsIdle t × Ends (λ outcome. ImportWritten w.zone.origin.now i.left o.old o.new outcome (i.after ≡ i.before) (i.before < i.after) o.before o.after
     × ZoneStored s w.zone.store.now w.zone.origin.now w.existing i.left left o.old o.new outcome (i.after ≡ i.before) (i.before < i.after) o.before o.after) status
 StoreJobEnds a p s i o t (store_job.Export w) left status =
-    IsIdle t × IsUnread i × Ends (λ outcome. ExportWritten w.zone.origin.now w.form o.old o.new outcome o.before o.after
-    × ZoneExported s w.zone.store.now w.zone.origin.now w.form left o.old o.new outcome o.before o.after) status
+    IsIdle t × IsUnread i × Ends (λ outcome. ExportEnds s w.zone.store.now w.zone.origin.now w.at w.form left o.old o.new outcome o.before o.after) status
 StoreJobEnds a p s i o t (store_job.Zones w) left status =
     IsIdle t × IsUnread i × Ends (λ outcome. ZonesPrinted s w.store.now left o.old o.new outcome o.before o.after) status
 StoreJobEnds a p s i o t (store_job.Log w) left status =
     IsIdle t × IsUnread i × Ends (λ outcome. LogPrinted s w.zone.store.now w.zone.origin.now w.choice left o.old o.new outcome o.before o.after) status
+StoreJobEnds a p s i o t (store_job.Blame w) left status =
+    IsIdle t × IsUnread i
+    × Ends (λ outcome. BlamePrinted s w.zone.store.now w.zone.origin.now (option_map (λ n. n.now) w.name) left o.old o.new outcome o.before o.after) status
+StoreJobEnds a p s i o t (store_job.Undo w) left status =
+    IsIdle t × IsUnread i
+    × Ends (λ outcome. UndoPrinted s w.zone.store.now w.zone.origin.now (record { first = w.first; last = w.last }) left o.old o.new outcome o.before o.after) status
 StoreJobEnds a p s i o t (store_job.Migrate w) left status =
     IsIdle t × IsUnread i
     × Ends (λ outcome. MigrationWritten o.old o.new outcome o.before o.after × StoreMigrated s w.store.now left o.old o.new outcome o.before o.after) status

@@ -1,7 +1,9 @@
-//! The commands that need a store: to put a zone into it, to print one, to migrate it, and to serve callers.
+//! The commands that need a store: to put a zone into it, to print one as it is or was, with its changes and what undoes
+//! them, to migrate it, and to serve callers.
 #![tactic(auto)]
 
 mod beginning;
+mod blame;
 mod diagnosis;
 mod files;
 mod folding;
@@ -12,6 +14,7 @@ mod list_laws;
 mod listening;
 mod log_choice;
 mod migration;
+mod past_zone;
 mod program;
 mod service;
 mod start_laws;
@@ -21,10 +24,13 @@ mod store_log;
 mod streams;
 mod surroundings;
 mod table_job;
+mod undo;
+mod zone_history;
 mod zone_list;
 mod zone_log;
 mod zones;
 
+pub use blame::{BlameAsked, blame};
 pub use cli_core::{JobFault, LineFault, NO_MEMORY_LINE, read_path};
 pub use diagnosis::Remembered;
 pub use dns_master::DeviceFailed;
@@ -33,6 +39,7 @@ pub use folding::fold_log;
 pub use list_laws::{all_changes_are_asked, asked_is_printed, each_receipt_counts_once};
 pub use listening::{CountedListener, Socket, heard, listen_at};
 pub use migration::migrate;
+pub use past_zone::export_at;
 pub use program::{do_job, do_store_job, do_text_job, do_words};
 pub use service::{listening_at, serve};
 pub use start_laws::starts_have_one_history;
@@ -40,4 +47,6 @@ pub use store_list::list_zones;
 pub use store_log::log;
 pub use streams::{Streams, run_words};
 pub use surroundings::Surroundings;
+pub use undo::{Undone, undo};
+pub use zone_history::ZoneHistory;
 pub use zones::{export, import};

@@ -7,13 +7,16 @@ ghost use Rattle.cli_text.specs.Plan.{IsPlanned};
 ghost use Rattle.cli_store.specs.Stores.{stores_of};
 ghost use Rattle.cli_store.specs.Program.{Ends, EndsTask, EndsCheck, EndsChanges, EndsCheckOf, EndsExpectedBy, EndsExpected, EndsTaskOf, IsInquiredOf, AnswerEnds, DiffersBy, named, standard, requested, CheckEnds, TextJobEnds, StoreJobEnds, JobEnds, EndsFault, WordsEnd, IsToldWhole, status_of, check_status_of};
 
+use crate::blame::blame;
 use crate::files::StoreFiles;
 use crate::migration::migrate;
+use crate::past_zone::export_by;
 use crate::service::serve;
 use crate::store_list::list_zones;
 use crate::store_log::log;
 use crate::surroundings::{Ended, NamedFile, Surroundings};
-use crate::zones::{export, import};
+use crate::undo::{Undone, undo};
+use crate::zones::import;
 use cli_core::{
     Answer, Check, DiffForm, Input, Job, JobFault, NO_MEMORY_LINE, RequestForm, StoreJob, TextJob,
     WordsFault, ZoneFiles, read_words, write_text,
@@ -439,9 +442,17 @@ fn done<M: Surroundings, S: Alter + Drop, P: StoreFiles<S> + Drop, R: Source, W:
         StoreJob::Import(words) => {
             import(alloc, files, (words.zone, words.existing), input, output)
         }
-        StoreJob::Export(words) => export(alloc, files, words.zone, words.form, output),
+        StoreJob::Export(words) => export_by(alloc, files, words, output),
         StoreJob::Zones(words) => list_zones(alloc, files, words.store, output),
         StoreJob::Log(words) => log(alloc, files, words.zone, words.choice, output),
+        StoreJob::Blame(words) => blame(alloc, files, words.zone, words.name, output),
+        StoreJob::Undo(words) => {
+            let undone = Undone {
+                first: words.first,
+                last: words.last,
+            };
+            undo(alloc, files, words.zone, undone, output)
+        }
         StoreJob::Migrate(words) => migrate(alloc, files, words.store, output),
         StoreJob::Serve(service) => serve(around, files, service, output, trace),
     }

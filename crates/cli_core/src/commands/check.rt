@@ -25,6 +25,15 @@ pub enum Check<'a> {
         /// The path of the policy against which it is checked, where one is given.
         against: Option<&'a str>,
     },
+    /// To find the rules of a policy that speak of no zone, and the zones of which no rule speaks.
+    Scopes {
+        /// The path of the policy.
+        policy: &'a str,
+        /// The path of the list of zones.
+        zones: &'a str,
+        /// Who is to list all of them, where one is given.
+        reader: Option<&'a str>,
+    },
     /// To find what keeps a caller of a policy from being isolated.
     Isolation {
         /// The path of the policy.
@@ -64,6 +73,8 @@ pub(super) static ROW: Row = Row {
         Argument::CheckedName,
         Argument::CheckedPolicy,
         Argument::Against,
+        Argument::Zones,
+        Argument::Reader,
         Argument::Isolated,
         Argument::CheckedOrigin,
         Argument::Only,
@@ -98,13 +109,24 @@ fn check_in<'a>(subject: &str, matches: &ArgMatches<'a>) -> Option<Check<'a>>
     }
 }
 
-/// The job of `check policy`.
+/// The job of `check policy`, where the policy is not checked both against another and beside zones, and a reader only beside zones.
 fn policy_in<'a>(matches: &ArgMatches<'a>) -> Option<Check<'a>>
     ensures { option_map asks_check result ≡ check_by (codes "policy") (rows_of (found_of matches.now)) }
 {
     let policy = text_at(matches, Argument::CheckedPolicy)?;
-    let against = text_at(matches, Argument::Against);
-    Some(Check::Policy { policy, against })
+    match (
+        text_at(matches, Argument::Against),
+        text_at(matches, Argument::Zones),
+        text_at(matches, Argument::Reader),
+    ) {
+        (against, None, None) => Some(Check::Policy { policy, against }),
+        (None, Some(zones), reader) => Some(Check::Scopes {
+            policy,
+            zones,
+            reader,
+        }),
+        _ => None,
+    }
 }
 
 /// The job of `check isolation`.
