@@ -44,6 +44,8 @@ use Rattle.cli_text.specs.Explain.{explain_text}
 use Rattle.cli_core.specs.Replies.{line_of, IsSent, Answered}
 use Rattle.cli_text.specs.Check.{Checked}
 use Rattle.cli_text.specs.PolicyChangeAnswers.{AreChangesChecked}
+use Rattle.cli_text.specs.declared.policy_zones_fault.PolicyZonesFault.{PolicyZonesFault}
+use Rattle.cli_text.specs.PolicyZoneAnswers.{AreZonesChecked}
 use Rattle.cli_text.specs.Diff.{Differs}
 use Rattle.cli_text.specs.Plan.{IsPlanned}
 use Rattle.wire_tcp.specs.Connections.{Writing}
@@ -137,6 +139,17 @@ EndsExpected a i policy path o status =
     ((unwrap_or path (codes "-") ≢ codes "-") × IsUnread i × EndsExpectedBy a policy (named a (unwrap_or path (codes "-"))) o status)
     ⊎ ((unwrap_or path (codes "-") ≡ codes "-") × EndsExpectedBy a policy (standard i) o status)
 
+-- The policy of the path is read, and then the list of zones. At 0 both were read, and the policy leaves out none of them.
+abbrev pub EndsZonesBy : {H : Type 0} → Around H → List ℕ → Option (List ℕ) → InputOf → Writing → ℕ → Type 0
+EndsZonesBy a policy reader zones o status = (outcome : Result Findings PolicyZonesFault)
+    × AreZonesChecked reader (named a policy) zones o.old o.new outcome o.before o.after × (status ≡ check_status_of outcome)
+
+-- that is the input that a path names: standard input, if it is `-`, or a file
+abbrev pub EndsZones : {H : Type 0} → Around H → Reading → List ℕ → Option (List ℕ) → List ℕ → Writing → ℕ → Type 0
+EndsZones a i policy reader path o status =
+    ((path ≢ codes "-") × IsUnread i × EndsZonesBy a policy reader (named a path) o status)
+    ⊎ ((path ≡ codes "-") × EndsZonesBy a policy reader (standard i) o status)
+
 -- The items between the zones of two files: a path that is `-` is standard input, of which nothing is left for the second file where the
 -- first is it too. Where neither is, standard input is not read.
 abbrev pub DiffersBy : {H : Type 0} → Around H → Reading → DiffForm → List ℕ → ZoneFiles → Writing → Result (Unit {0}) DiffFault → Type 0
@@ -173,6 +186,7 @@ abbrev pub CheckEnds : {H : Type 0} → Around H → Reading → Writing → Che
 CheckEnds a i o (check.Policy policy None) status = IsUnread i × EndsCheck Rules (a.file policy.now) ⊤ (a.unreadable policy.now) o status
 CheckEnds a i o (check.Policy policy (Some against)) status = IsUnread i × EndsChanges a against.now policy.now o status
 CheckEnds a i o (check.Expect policy file) status = EndsExpected a i policy.now (option_map (λ f. f.now) file) o status
+CheckEnds a i o (check.Scopes policy zones reader) status = EndsZones a i policy.now (option_map (λ r. r.now) reader) zones.now o status
 CheckEnds a i o (check.Isolation policy caller) status = IsUnread i × EndsCheck (Isolation caller) (a.file policy.now) ⊤ (a.unreadable policy.now) o status
 CheckEnds a i o (check.Rights policy name) status = IsUnread i × EndsCheck (Rights name) (a.file policy.now) ⊤ (a.unreadable policy.now) o status
 CheckEnds a i o (check.Zone origin rules) status = EndsCheck (Zone origin rules) i.left (i.after ≡ i.before) (i.before < i.after) o status

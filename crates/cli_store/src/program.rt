@@ -5,7 +5,7 @@ ghost use Rattle.std.specs.Process.{exit_status};
 ghost use Rattle.sqlite.specs.Held.{state};
 ghost use Rattle.cli_text.specs.Plan.{IsPlanned};
 ghost use Rattle.cli_store.specs.Stores.{stores_of};
-ghost use Rattle.cli_store.specs.Program.{Ends, EndsTask, EndsCheck, EndsChanges, EndsCheckOf, EndsExpectedBy, EndsExpected, EndsTaskOf, IsInquiredOf, AnswerEnds, DiffersBy, named, standard, requested, CheckEnds, TextJobEnds, StoreJobEnds, JobEnds, EndsFault, WordsEnd, IsToldWhole, status_of, check_status_of};
+ghost use Rattle.cli_store.specs.Program.{Ends, EndsTask, EndsCheck, EndsChanges, EndsCheckOf, EndsExpectedBy, EndsExpected, EndsZonesBy, EndsZones, EndsTaskOf, IsInquiredOf, AnswerEnds, DiffersBy, named, standard, requested, CheckEnds, TextJobEnds, StoreJobEnds, JobEnds, EndsFault, WordsEnd, IsToldWhole, status_of, check_status_of};
 
 use crate::blame::blame;
 use crate::files::StoreFiles;
@@ -23,7 +23,7 @@ use cli_core::{
 };
 use cli_text::{
     AnswerFault, Apply, DiffFault, Findings, Request, Split, Subject, Task, do_answers, do_changes,
-    do_check, do_diff, do_expect, do_plan,
+    do_check, do_diff, do_expect, do_plan, do_policy_zones,
 };
 use dns_master::{Sink, Source};
 use sqlite::{Alter, Connection};
@@ -179,6 +179,53 @@ fn expect<M: Surroundings, R: Source, W: Sink>(
     expect_of(around, policy, &mut file, output)
 }
 
+/// Writes what the policy of a path leaves out of the zones of a list, by an input.
+fn policy_zones_of<M: Surroundings, N: Input, W: Sink>(
+    around: &M,
+    what: (&str, Option<&str>),
+    zones: &mut N,
+    output: &mut W,
+) -> ExitCode
+    ensures { EndsZonesBy (M.around around.now) what.entry.0.now (option_map (λ r. r.now) what.entry.1)
+        (record { left = N.left zones.old; fine = N.fine zones.old zones.new; failed = N.failed zones.old zones.new })
+        (record { old = W.contents output.old; new = W.contents output.new; before = W.failures output.old; after = W.failures output.new })
+        (exit_status result) }
+{
+    let (policy, reader) = what;
+    let mut policy = NamedFile {
+        around,
+        path: policy,
+    };
+    check_status(
+        around,
+        do_policy_zones(around.alloc(), reader, &mut policy, zones, output),
+    )
+}
+
+/// The same by the list of a path: standard input, if it is `-`, or a file.
+fn policy_zones<M: Surroundings, R: Source, W: Sink>(
+    around: &M,
+    what: (&str, Option<&str>),
+    zones: &str,
+    input: &mut R,
+    output: &mut W,
+) -> ExitCode
+    ensures { EndsZones (M.around around.now)
+        (record { left = R.remaining input.old; rest = R.remaining input.new; before = R.failures input.old; after = R.failures input.new })
+        what.entry.0.now (option_map (λ r. r.now) what.entry.1) zones.now
+        (record { old = W.contents output.old; new = W.contents output.new; before = W.failures output.old; after = W.failures output.new })
+        (exit_status result) }
+{
+    if is_standard(zones) {
+        return policy_zones_of(around, what, input, output);
+    }
+    let mut file = NamedFile {
+        around,
+        path: zones,
+    };
+    policy_zones_of(around, what, &mut file, output)
+}
+
 /// Checks what the words of `check` name.
 fn check_job<M: Surroundings, R: Source, W: Sink>(
     around: &M,
@@ -200,6 +247,11 @@ fn check_job<M: Surroundings, R: Source, W: Sink>(
             policy,
             against: Some(against),
         } => changes(around, against, policy, output),
+        Check::Scopes {
+            policy,
+            zones,
+            reader,
+        } => policy_zones(around, (policy, reader), zones, input, output),
         Check::Expect { policy, file } => expect(around, policy, file, input, output),
         Check::Isolation { policy, caller } => {
             check_file(around, Subject::Isolation(caller), policy, output)

@@ -12,9 +12,7 @@ use crate::store_file::StorePath;
 use crate::table_job::asked_by;
 use crate::zone_history::{HistoryOf, ZoneHistory};
 use crate::zones::report;
-use cli_core::{
-    DiffForm, GuardScope, JobFault, LineFault, Refusal, StoredZone, write_refusal,
-};
+use cli_core::{DiffForm, GuardScope, JobFault, LineFault, Refusal, StoredZone, write_refusal};
 use cli_text::{items_between, read_name};
 use dns_master::Sink;
 use dns_names::Name;

@@ -58,11 +58,7 @@ fn later(changes: &[Change], number: u64) -> Option<&[Change]>
 impl ZoneHistory {
     /// The records of the zone after the change of a number, and with 0 as they were before the first, in record order. `NoChange`
     /// comes where the zone was not changed so often.
-    pub(crate) fn records_after(
-        &self,
-        alloc: Global,
-        number: u64,
-    ) -> Result<Vec<Record>, LineFault>
+    pub(crate) fn records_after(&self, alloc: Global, number: u64) -> Result<Vec<Record>, LineFault>
         ensures { Gives (λ rows. rows.items) result (records_after number (history_in self.now)) }
     {
         let Some(later) = later(&self.changes, number) else {

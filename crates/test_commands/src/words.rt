@@ -1,9 +1,9 @@
 //! What the words of a command line ask for.
 
 use cli_core::{
-    Advice, Check, DiffForm, Existing, GuardScope, Job, LogChoice, QuestionWords, RequestForm,
-    RuleChoice, Service, StoreJob, StoredZone, TextForm, TextJob, WordsFault, ZoneFiles, ZoneForm,
-    ZoneRules, read_words,
+    Advice, Answer, Check, DiffForm, Existing, GuardScope, Job, LogChoice, QuestionWords,
+    RequestForm, RuleChoice, Service, StoreJob, StoredZone, TextForm, TextJob, WordsFault,
+    ZoneFiles, ZoneForm, ZoneRules, read_words,
 };
 use std::alloc::{AllocError, Global};
 use test_rows::Row;
@@ -91,21 +91,7 @@ fn push_text_job(alloc: Global, job: &TextJob<'_>, answer: &mut Vec<u8>) -> Resu
         TextJob::Rights(words) => push_question(words.policy, &words.asked, answer),
         TextJob::Plan(words) => push_plan(words.policy, words.caller, answer),
         TextJob::Check(words) => push_check(alloc, words, answer),
-        TextJob::Answer(words) => {
-            push_all(
-                &[
-                    "answer (",
-                    words.origin,
-                    ") (",
-                    words.file,
-                    ") (",
-                    words.name,
-                    ")",
-                ],
-                answer,
-            )?;
-            push_if_given(words.asked, answer)
-        }
+        TextJob::Answer(words) => push_inquiry(words, answer),
         TextJob::Reverse(words) => {
             push_all(&["reverse (", words.origin, ") (", words.file, ")"], answer)
         }
@@ -113,11 +99,37 @@ fn push_text_job(alloc: Global, job: &TextJob<'_>, answer: &mut Vec<u8>) -> Resu
     }
 }
 
+/// Appends what a server is asked.
+fn push_inquiry(words: &Answer<'_>, answer: &mut Vec<u8>) -> Result<(), AllocError> {
+    let name = words.name;
+    push_all(
+        &[
+            "answer (",
+            words.origin,
+            ") (",
+            words.file,
+            ") (",
+            name,
+            ")",
+        ],
+        answer,
+    )?;
+    push_if_given(words.asked, answer)
+}
+
 fn push_check(alloc: Global, words: &Check<'_>, answer: &mut Vec<u8>) -> Result<(), AllocError> {
     match words {
         Check::Policy { policy, against } => {
             push_all(&["check policy (", policy, ")"], answer)?;
             push_if_given(*against, answer)
+        }
+        Check::Scopes {
+            policy,
+            zones,
+            reader,
+        } => {
+            push_all(&["check policy (", policy, ") zones (", zones, ")"], answer)?;
+            push_named(" reader", *reader, answer)
         }
         Check::Expect { policy, file } => {
             push_all(&["check expect (", policy, ")"], answer)?;
@@ -151,10 +163,20 @@ fn push_store_job(
             answer,
         ),
         StoreJob::Export(words) => {
-            push_zone("export", &words.zone, form_text(words.form), answer)
+            push_zone("export", &words.zone, form_text(words.form), answer)?;
+            push_number(alloc, " at ", words.at, answer)
         }
         StoreJob::Zones(words) => push_given("zones", words.store, "", answer),
         StoreJob::Log(words) => push_log(alloc, &words.zone, &words.choice, answer),
+        StoreJob::Blame(words) => {
+            push_zone("blame", &words.zone, "", answer)?;
+            push_named(" name", words.name, answer)
+        }
+        StoreJob::Undo(words) => {
+            push_zone("undo", &words.zone, "", answer)?;
+            push_number(alloc, " change ", words.first, answer)?;
+            push_number(alloc, " to ", words.last, answer)
+        }
         StoreJob::Migrate(words) => push_given("migrate", words.store, "", answer),
         StoreJob::Serve(service) => push_service(alloc, service, answer),
     }

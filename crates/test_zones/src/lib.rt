@@ -5,7 +5,8 @@
 //! number of each time, from 0. `build` keeps the policy of the rules of its body, a line `ID EFFECT CALLER SCOPE AT TYPES ACTIONS`
 //! each. Of the policy that is kept, `decide CALLER NAME TYPE ACTION` tells the decision, with the rule that made it, and
 //! `rights CALLER NAME` whether the caller has any right there; `idle` prints each rule that never decides with those that take its
-//! questions after a colon, by their ids. `covers AT NAME` tells which scopes cover the name;
+//! questions after a colon, by their ids; `slice ORIGIN..` prints the rules that can matter in zones, `stray ORIGIN..` those that
+//! cannot, `unspoken ORIGIN..` the zones of which no rule speaks, and `hidden CALLER ORIGIN` what the caller may not list there. `covers AT NAME` tells which scopes cover the name;
 //! `identifier TEXT` reads an identifier, and `identifiers ONE OTHER` compares two; `effect WORD`, `scope WORD` and
 //! `action WORD` read a word.
 //!
@@ -16,7 +17,9 @@
 //! from that zone to the one of the body, as item lines, and the serial of the zone after them. `read` reads such items,
 //! `outside ORIGIN` tells which is the first outside, and `same ITEMS` whether they are those of the line. `delegate ORIGIN CHILD
 //! TTL` prints the operations for the servers of the body, each with its addresses, and `delegate-count` how many there are.
-//! `less N M` and `sum N M` compare and add serials.
+//! `less N M` and `sum N M` compare and add serials. `large N` prints the first records of sets of more than N records. `before` prints
+//! the records of the zone before the changes of the body, whose lines are records after `- ` and `+ `, with a line `--` between two changes;
+//! and `bringers` its records with the numbers of the changes that brought them.
 //!
 //! `items`: `items` prints the canonical lines of the items below; `many N LINE` prints how many items a line makes so many times,
 //! before the lines below. `points ORIGIN ITEM` prints what an item asks for, by type number. `policy` reads the policy below, and

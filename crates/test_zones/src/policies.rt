@@ -1,6 +1,8 @@
+mod beside;
 mod idle;
 mod rules;
 
+use crate::policies::beside::{beside, hidden};
 use crate::policies::idle::idle;
 use crate::refusal::Refusal;
 use dns_data::RecordType;
@@ -28,7 +30,9 @@ impl Policies {
         let (first, rest) = row.split();
         match row.verb {
             "policy" | "many" | "build" => self.keep(alloc, row),
-            "decide" | "rights" | "idle" => self.ask(alloc, row),
+            "decide" | "rights" | "idle" | "slice" | "stray" | "unspoken" | "hidden" => {
+                self.ask(alloc, row)
+            }
             "covers" => covering(alloc, first, rest),
             "identifier" => identifier(alloc, &row.text),
             "identifiers" => identifiers(alloc, first, rest),
@@ -79,7 +83,9 @@ fn answer_of(alloc: Global, policy: &Policy, row: &Row<'_>) -> Result<String, Re
     match row.verb {
         "decide" => decision(alloc, policy, first, rest),
         "rights" => rights(alloc, policy, first, rest),
-        _ => idle(alloc, policy),
+        "idle" => idle(alloc, policy),
+        "hidden" => hidden(alloc, policy, &row.text),
+        verb => beside(alloc, policy, verb, &row.text),
     }
 }
 

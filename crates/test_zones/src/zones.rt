@@ -2,6 +2,7 @@
 
 mod delegations;
 mod differences;
+mod history;
 pub mod lines;
 mod parsed_rows;
 mod serials;
@@ -11,10 +12,11 @@ mod updates;
 use crate::refusal::Refusal;
 use crate::zones::delegations::{push_count, push_delegation, push_report};
 use crate::zones::differences::push_difference;
+use crate::zones::history::{push_before, push_bringers};
 use crate::zones::lines::{push, push_name, push_number, push_records};
 use crate::zones::parsed_rows::{file, name, record_type};
 use crate::zones::serials::{push_less, push_sum};
-use crate::zones::tools::{push_faults, push_pointers, push_shared};
+use crate::zones::tools::{push_faults, push_large, push_pointers, push_shared};
 use crate::zones::updates::{push_outside, push_same, push_update, push_with_update};
 use dns_data::{Record, record_line};
 use dns_names::Name;
@@ -83,6 +85,9 @@ fn answer_of_zone(
         "at" | "set" | "within" => push_listed(alloc, zone, row, answer),
         "report" => push_report(alloc, zone, answer),
         "faults" => push_faults(alloc, zone, answer),
+        "large" => push_large(alloc, zone, &row.text, answer),
+        "before" => push_before(alloc, zone, &row.body, answer),
+        "bringers" => push_bringers(alloc, zone, &row.body, answer),
         "holds" | "change" | "after" | "serial-after" => {
             push_with_update(alloc, zone, row, answer)
         }

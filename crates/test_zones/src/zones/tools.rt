@@ -2,12 +2,12 @@
 
 use crate::refusal::Refusal;
 use crate::zones::lines::{push, push_records};
-use crate::zones::parsed_rows::{file, name};
+use crate::zones::parsed_rows::{file, name, number};
 use dns_data::{Record, record_line};
 use std::alloc::Global;
 use test_rows::Row;
 use zone_core::Zone;
-use zone_tools::{Finding, NameServer, findings, reverse_pointers, shared_addresses};
+use zone_tools::{Finding, NameServer, findings, large_sets, reverse_pointers, shared_addresses};
 
 /// Appends the pointers that the records of a row call for in a reverse zone of its origin.
 pub fn push_pointers(alloc: Global, row: &Row<'_>, answer: &mut Vec<u8>) -> Result<(), Refusal> {
@@ -21,6 +21,17 @@ pub fn push_shared(alloc: Global, row: &Row<'_>, answer: &mut Vec<u8>) -> Result
     let origin = name(alloc, &row.text)?;
     let records = file(alloc, &row.body, &origin)?;
     push_records(alloc, &shared_addresses(alloc, &origin, &records)?, answer)
+}
+
+/// Appends the first records of the sets of a zone that have more records than a number, or too much data.
+pub fn push_large(
+    alloc: Global,
+    zone: &Zone,
+    most: &[u8],
+    answer: &mut Vec<u8>,
+) -> Result<(), Refusal> {
+    let found = large_sets(alloc, zone, number(most) as usize)?;
+    push_records(alloc, &found, answer)
 }
 
 /// Appends what is wrong in a zone: a line each, with what each server does.
