@@ -1,14 +1,16 @@
-//! What policies change, and whether they are as expected.
+//! What policies change, whether they are as expected, and what they leave out of zones.
 
 use crate::commands::devices::Manner;
 use crate::commands::trials::{Devices, Trial, tried};
-use cli_text::{ChangesFault, ExpectFault, Findings, do_changes, do_expect};
+use cli_text::{
+    ChangesFault, ExpectFault, Findings, PolicyZonesFault, do_changes, do_expect, do_policy_zones,
+};
 use dns_master::{Sink, Source};
 use std::alloc::{AllocError, Global};
 use std::fmt::Display;
 use test_rows::{Row, text_of};
 
-/// A policy, and another or what is expected of it.
+/// A policy, and another, what is expected of it, or zones.
 #[derive(Clone, Copy)]
 struct TwoTexts<'a> {
     first: &'a str,
@@ -60,6 +62,26 @@ impl Trial for Expects {
     }
 }
 
+/// To write what a policy leaves out of zones, and what a reader may not list in them.
+#[derive(Clone, Copy)]
+struct Beside<'a> {
+    reader: Option<&'a str>,
+}
+
+impl Trial for Beside<'_> {
+    type Outcome = Result<Findings, PolicyZonesFault>;
+
+    fn run<R: Source, N: Source, W: Sink>(
+        self,
+        alloc: Global,
+        first: &mut R,
+        second: &mut N,
+        writer: &mut W,
+    ) -> Result<Findings, PolicyZonesFault> {
+        do_policy_zones(alloc, self.reader, first, second, writer)
+    }
+}
+
 /// A device whose first call fails.
 const FAILING: Manner = Manner { most: 64, fails: 1 };
 
@@ -98,6 +120,34 @@ fn push_expected(
 ) -> Result<(), AllocError> {
     let devices = devices_of(alloc, row, manners)?;
     let (printed, done) = tried(alloc, Expects, devices);
+    answer.extend_from_slice(&printed)?;
+    push_findings(alloc, done, answer)
+}
+
+/// Appends the answer to a row of a policy and zones, with the reader of its text: what is printed of them; or the same where the first
+/// read of each fails.
+pub fn push_zones(alloc: Global, row: &Row<'_>, answer: &mut Vec<u8>) -> Result<(), AllocError> {
+    let sound = Manner::SOUND;
+    if row.verb == "beside" {
+        return push_beside(alloc, row, [sound, sound, sound], answer);
+    }
+    push_beside(alloc, row, [FAILING, sound, sound], answer)?;
+    answer.push(b'\n')?;
+    push_beside(alloc, row, [sound, FAILING, sound], answer)
+}
+
+/// Appends what is printed of zones, with devices that work so.
+fn push_beside(
+    alloc: Global,
+    row: &Row<'_>,
+    manners: [Manner; 3],
+    answer: &mut Vec<u8>,
+) -> Result<(), AllocError> {
+    let reader = text_of(&row.text);
+    let beside = Beside {
+        reader: (!reader.is_empty()).then_some(reader),
+    };
+    let (printed, done) = tried(alloc, beside, devices_of(alloc, row, manners)?);
     answer.extend_from_slice(&printed)?;
     push_findings(alloc, done, answer)
 }
