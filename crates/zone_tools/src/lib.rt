@@ -12,6 +12,7 @@ mod laws;
 mod name_server;
 mod pointers;
 mod record_faults;
+mod record_key;
 mod reverse_blocks;
 mod reverse_names;
 mod same;
