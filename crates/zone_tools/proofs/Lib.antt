@@ -12,3 +12,4 @@ pub mod ReverseBlockLemmas
 pub mod PointerLemmas
 pub mod SharedLemmas
 pub mod LargeSetLemmas
+pub mod HistoryLemmas
