@@ -29,7 +29,10 @@ pub use difference::operations_between;
 pub use history::{bringers, records_before};
 pub use host_names::is_reverse;
 pub use large_record_sets::large_sets;
-pub use laws::{clean_zones_have_glue, pointers_are_one};
+pub use laws::{
+    bringers_are_last, changes_are_undone, clean_zones_have_glue, pointers_are_one,
+    records_were_there,
+};
 pub use name_server::{NameServer, Reaction};
 pub use pointers::reverse_pointers;
 pub use same::{is_equal, is_same};
