@@ -3,7 +3,8 @@ pub mod LineLemmas
 pub mod PartLemmas
 pub mod PlanLemmas
 pub mod QuestionLemmas
-pub mod ExpectLemmas
+pub mod ReportLemmas
+pub mod OriginLemmas
 pub mod ReadAgainLemmas
 pub mod ExplainLemmas
 pub mod GuardLaws

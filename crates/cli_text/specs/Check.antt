@@ -38,6 +38,8 @@ use Rattle.cli_text.specs.ZoneCheck.{tests_of, IsZoneReport}
 use Rattle.cli_text.specs.RightsCheck.{IsRightsText}
 use Rattle.cli_text.specs.PolicyChanges.{IsChangesReport}
 use Rattle.cli_text.specs.Expect.{expectations_read, IsExpectReport}
+use Rattle.cli_text.specs.OriginLists.{origins_of}
+use Rattle.cli_text.specs.PolicyZones.{IsZonesReport}
 use Rattle.cli_text.specs.ReportLines.{id_text, right_text, other_text}
 use Rattle.cli_core.specs.LineFaults.{◌>>=◌, or_refused, limited, of_names, of_policies, Makes, ReachesInput}
 use Rattle.cli_core.specs.Refusals.{refused_line}
@@ -59,16 +61,18 @@ abbrev pub asked_in : Subject → Result Asked Refusal
 asked_in subject.Rules = Ok asked.Rules
 asked_in (subject.Changes old) = Ok (asked.Changes old)
 asked_in (subject.Expected policy) = Ok (asked.Expected policy)
+asked_in (subject.Zones policy reader) = Ok (asked.Zones policy reader)
 asked_in (subject.Isolation word) = or_refused (identifier_of word.now) NoCaller >>= λ caller. Ok (asked.Isolation caller)
 asked_in (subject.Rights word) = name_if (option_map (λ w. w.now) word) >>= λ name. Ok (asked.Rights name)
 asked_in (subject.Reverse word) = of_names (absolute_name word.now) >>= λ origin. Ok (asked.Reverse origin)
 asked_in (subject.Zone origin rules) = tests_of rules >>= λ tests. of_names (absolute_name origin.now) >>= λ name. Ok (asked.Zone name tests)
 
--- what that is in an input: a policy, expectations, or the files of zones
+-- what that is in an input: a policy, expectations, a list of zones, or the files of zones
 abbrev pub checking_of : Asked → List ℕ → Result Checking Refusal
 checking_of asked.Rules text = rules_in text >>= λ rules. Ok (checking.Rules rules)
 checking_of (asked.Changes old) text = rules_in text >>= λ rules. Ok (checking.Changes old rules)
 checking_of (asked.Expected policy) text = expectations_read text >>= λ rows. Ok (checking.Expected policy rows)
+checking_of (asked.Zones policy reader) text = origins_of text >>= λ zones. Ok (checking.Zones policy reader zones)
 checking_of (asked.Isolation caller) text = rules_in text >>= λ rules. Ok (checking.Isolation caller rules)
 checking_of (asked.Rights name) text = rules_in text >>= λ rules. Ok (checking.Rights name rules)
 checking_of (asked.Reverse origin) text = records_of text >>= λ records. Ok (checking.Reverse origin records)
@@ -133,6 +137,7 @@ abbrev pub IsReportOn : Checking → Findings → List ℕ → Type 0
 IsReportOn (checking.Rules rules) findings text = IsReport rules findings text
 IsReportOn (checking.Changes old rules) findings text = IsChangesReport old.now rules findings text
 IsReportOn (checking.Expected policy rows) findings text = IsExpectReport policy.now rows findings text
+IsReportOn (checking.Zones policy reader zones) findings text = IsZonesReport policy.now (option_map (λ r. r.now) reader) zones findings text
 IsReportOn (checking.Isolation caller rules) findings text = IsIsolationReport rules caller findings text
 IsReportOn (checking.Rights name rules) findings text = IsRightsText name rules text × (findings ≡ Absent)
 IsReportOn (checking.Reverse origin records) findings text = IsReverseReport origin records findings text

@@ -21,7 +21,7 @@ use Rattle.cli_core.specs.declared.line_fault.LineFault.{LineFault}
 use Rattle.cli_core.specs.declared.line_fault.LineFault.TheVariants.{Refused, NoMemory}
 use Rattle.cli_text.specs.declared.check.Findings.{Findings}
 use Rattle.cli_text.specs.Rights.{verdict_line}
-use Rattle.cli_text.specs.ReportLines.{other_text, right_text}
+use Rattle.cli_text.specs.ReportLines.{AreTexts, other_text, right_text}
 use Rattle.cli_text.specs.ZoneCheck.{told}
 
 -- ---- what is expected
@@ -77,12 +77,6 @@ IsRowText rules row text =
     (Holds rules row.expectation × (text ≡ []))
     ⊎ ((example : Counterexample) × IsCounterexample rules row.expectation example × (text ≡ example_line rules row.line example))
 
--- the same of lines, one after the other
-abbrev pub AreRowTexts : List Rule → List ExpectationLine → List ℕ → Type 0
-AreRowTexts rules [] text = text ≡ []
-AreRowTexts rules (row ∷ rows) text =
-    (here : List ℕ) × (rest : List ℕ) × (text ≡ here ++ rest) × IsRowText rules row here × AreRowTexts rules rows rest
-
--- something was found exactly where there is a text
+-- the same of lines, one after the other; something was found exactly where there is a text
 abbrev pub IsExpectReport : List Rule → List ExpectationLine → Findings → List ℕ → Type 0
-IsExpectReport rules rows findings text = AreRowTexts rules rows text × (findings ≡ told text)
+IsExpectReport rules rows findings text = AreTexts (IsRowText rules) rows text × (findings ≡ told text)

@@ -11,11 +11,14 @@ pub mod ZoneCheck
 pub mod RightsCheck
 pub mod ReportLines
 pub mod Expect
+pub mod OriginLists
+pub mod PolicyZones
 pub mod Reverse
 pub mod PolicyChanges
 pub mod Check
 pub mod PolicyChangeAnswers
 pub mod ExpectAnswers
+pub mod PolicyZoneAnswers
 pub mod Guards
 pub mod GuardPromises
 pub mod Diff

@@ -1,5 +1,5 @@
--- What lines of reports on a policy have: rules, rights and callers.
-use Rattle.std.specs.Prelude.{ℕ, List, [], ◌∷◌, ◌++◌, codes, Option, Some, None, slice_get}
+-- What lines of reports on a policy have: rules, rights and callers. And texts that are reported one after the other.
+use Rattle.std.specs.Prelude.{◌≡◌, ℕ, List, [], ◌∷◌, ◌++◌, codes, Option, Some, None, slice_get}
 use Rattle.dns_data.specs.Types.{type_text}
 use Rattle.grant_policy.specs.declared.rule.Rule.{Rule}
 use Rattle.grant_policy.specs.Words.{action_text}
@@ -21,3 +21,8 @@ right_text rules right = (32 ∷ type_text right.record_type ++ 32 ∷ action_te
 abbrev pub other_text : Option (List ℕ) → List ℕ
 other_text None = codes " *"
 other_text (Some caller) = 32 ∷ caller
+
+-- what is told of each of a list, one after the other
+abbrev pub AreTexts : {X : Type 0} → (X → List ℕ → Type 0) → List X → List ℕ → Type 0
+AreTexts {X} IsText [] text = text ≡ []
+AreTexts {X} IsText (x ∷ xs) text = (here : List ℕ) × (rest : List ℕ) × (text ≡ here ++ rest) × IsText x here × AreTexts IsText xs rest

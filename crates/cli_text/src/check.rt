@@ -11,7 +11,9 @@ ghost use Rattle.cli_text.specs.Check.{rules_in, name_if, asked_in, checking_of,
 use crate::canon::{read_name, zone_of_file};
 use crate::expect::expect_report;
 use crate::expectations::{Expectations, expectations_in};
+use crate::origin_list::{OriginList, origins_in};
 use crate::policy_changes::changes_report;
+use crate::policy_zones::zones_report;
 use crate::reverse::{ForwardRecords, forward_records, reverse_report};
 use crate::rights::read_caller;
 use crate::rights_check::rights_list;
@@ -33,6 +35,8 @@ pub enum Subject<'a> {
     Changes(&'a Policy),
     /// What it expects of this policy that is not so.
     Expected(&'a Policy),
+    /// What this policy leaves out of its zones, and what this caller may not list there.
+    Zones(&'a Policy, Option<&'a Identifier>),
     /// Whether the caller that this word names is isolated.
     Isolation(&'a str),
     /// Who may do what, at the name that this word is, or at all names.
@@ -58,6 +62,7 @@ enum Asked<'a> {
     Rules,
     Changes(&'a Policy),
     Expected(&'a Policy),
+    Zones(&'a Policy, Option<&'a Identifier>),
     Isolation(Identifier),
     Rights(Option<Name>),
     Reverse(Name),
@@ -70,6 +75,7 @@ enum Checking<'a> {
     Rules(Policy),
     Changes(&'a Policy, Policy),
     Expected(&'a Policy, Expectations),
+    Zones(&'a Policy, Option<&'a Identifier>, OriginList),
     Isolation(Identifier, Policy),
     Rights(Option<Name>, Policy),
     Reverse(Name, ForwardRecords),
@@ -109,6 +115,7 @@ fn asked_in<'a>(alloc: Global, subject: Subject<'a>) -> Result<Asked<'a>, LineFa
         Subject::Rules => Ok(Asked::Rules),
         Subject::Changes(old) => Ok(Asked::Changes(old)),
         Subject::Expected(policy) => Ok(Asked::Expected(policy)),
+        Subject::Zones(policy, reader) => Ok(Asked::Zones(policy, reader)),
         Subject::Isolation(word) => Ok(Asked::Isolation(read_caller(alloc, word)?)),
         Subject::Rights(word) => Ok(Asked::Rights(name_if(alloc, word)?)),
         Subject::Reverse(word) => Ok(Asked::Reverse(read_name(alloc, word)?)),
@@ -135,6 +142,9 @@ fn checking_of<'a>(
         Asked::Rules => Ok(Checking::Rules(policy_in(alloc, text)?)),
         Asked::Changes(old) => Ok(Checking::Changes(old, policy_in(alloc, text)?)),
         Asked::Expected(policy) => Ok(Checking::Expected(policy, expectations_in(alloc, text)?)),
+        Asked::Zones(policy, reader) => {
+            Ok(Checking::Zones(policy, reader, origins_in(alloc, text)?))
+        }
         Asked::Isolation(caller) => Ok(Checking::Isolation(caller, policy_in(alloc, text)?)),
         Asked::Rights(name) => Ok(Checking::Rights(name, policy_in(alloc, text)?)),
         Asked::Reverse(origin) => {
@@ -340,6 +350,7 @@ fn report_on(alloc: Global, checking: &Checking<'_>) -> Result<Report, AllocErro
         Checking::Rules(policy) => rules_report(alloc, policy),
         Checking::Changes(old, new) => changes_report(alloc, old, new),
         Checking::Expected(policy, expected) => expect_report(alloc, policy, expected),
+        Checking::Zones(policy, reader, zones) => zones_report(alloc, policy, *reader, zones),
         Checking::Isolation(caller, policy) => isolation_report(alloc, policy, caller),
         Checking::Rights(name, policy) => rights_report(alloc, policy, name),
         Checking::Reverse(origin, forward) => reverse_report(alloc, origin, forward),

@@ -2,7 +2,8 @@
 
 ghost use Rattle.std.specs.Prelude.{◌≡◌, IfOk};
 ghost use Rattle.cli_text.specs.ExpectAnswers.{AreExpected};
-ghost use Rattle.cli_text.specs.Expect.{differs_line, exceeds_line, example_line, IsRowText, AreRowTexts, IsExpectReport};
+ghost use Rattle.cli_text.specs.Expect.{differs_line, exceeds_line, example_line, IsRowText, IsExpectReport};
+ghost use Rattle.cli_text.specs.ReportLines.{AreTexts};
 
 use crate::check::{Findings, Report, Subject, do_check, push_other, push_right};
 use crate::expect_fault::ExpectFault;
@@ -76,7 +77,7 @@ fn rows_text(
     policy: &Policy,
     rows: &[ExpectationLine],
 ) -> Result<Vec<u8>, AllocError>
-    ensures { IfOk result (λ text. AreRowTexts policy.now rows.now text.items) }
+    ensures { IfOk result (λ text. AreTexts (IsRowText policy.now) rows.now text.items) }
 {
     let mut text = Vec::new(alloc);
     for row in rows {

@@ -61,7 +61,7 @@ fn unquoted<'a>(line: usize, fault: WordFault, item: Item<'a>) -> Result<&'a [u8
 }
 
 /// The absolute name that a word of a line is.
-fn name_on(alloc: Global, line: usize, raw: &[u8]) -> Result<Name, LineFault>
+pub(crate) fn name_on(alloc: Global, line: usize, raw: &[u8]) -> Result<Name, LineFault>
     ensures { Gives (λ name. name) result (name_on line (absolute_name raw.now)) }
 {
     match Name::read_absolute(alloc, raw) {

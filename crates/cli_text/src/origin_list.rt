@@ -1,0 +1,120 @@
+//! The zones of a list, by their origins.
+
+ghost use Rattle.std.specs.Prelude.{◌≡◌, ◌++◌, ◌∷◌, [], ℕ, List, IfOk, OnOk, map, option_map};
+ghost use Rattle.policy_tools.specs.ExpectationLines.{is_blank, lines_of};
+ghost use Rattle.policy_tools.specs.ExpectationReading.{is_comment};
+ghost use Rattle.cli_core.specs.LineFaults.{Gives};
+ghost use Rattle.cli_text.specs.OriginLists.{first_word, is_passed_over, origin_on, origins_from, origins_of};
+
+use crate::questions::name_on;
+use cli_core::LineFault;
+use dns_names::Name;
+use std::alloc::{AllocError, Global};
+use std::marker::Model;
+
+/// The word of the line that `zones` prints of receipts of no zone.
+const ELSEWHERE: &[u8] = b"elsewhere";
+
+/// The origins of zones, in order. A contract sees the list of them.
+#[derive(Drop)]
+pub(crate) struct OriginList {
+    origins: Vec<Name>,
+}
+
+impl Model for OriginList {
+    ghost Value = { List (List (List ℕ)) };
+
+    ghost view = { λ l. l.origins.items };
+}
+
+impl OriginList {
+    /// The origins, in order.
+    pub(crate) fn origins(&self) -> &[Name]
+        ensures { result.now ≡ self.now }
+    {
+        &self.origins
+    }
+}
+
+/// Whether an octet is blank: a space, a tab or a carriage return.
+fn is_blank(octet: u8) -> bool
+    ensures { result ≡ is_blank octet }
+{
+    octet == b' ' || octet == b'\t' || octet == b'\r'
+}
+
+/// The first word of a line: the first part between its blanks that is not empty.
+fn first_word(line: &[u8]) -> Option<&[u8]>
+    ensures { option_map (λ word. word.now) result ≡ first_word line.now }
+{
+    line.split(|octet| is_blank(*octet))
+        .find(|part| !part.is_empty())
+}
+
+/// Whether a word begins a comment.
+fn is_comment(word: &[u8]) -> bool
+    ensures { result ≡ is_comment word.now }
+{
+    match word {
+        [octet, ..] => *octet == b'#' || *octet == b';',
+        [] => false,
+    }
+}
+
+/// Whether a word is no origin: it begins a comment, or is `elsewhere`.
+fn is_passed_over(word: &[u8]) -> bool
+    ensures { result ≡ is_passed_over word.now }
+{
+    is_comment(word) || word == ELSEWHERE
+}
+
+/// The origin of the line of this number whose first word is this, if it has one.
+fn origin_on(alloc: Global, line: usize, word: Option<&[u8]>) -> Result<Option<Name>, LineFault>
+    ensures { Gives (λ origin. origin) result (origin_on line (option_map (λ w. w.now) word.entry)) }
+{
+    let Some(word) = word else {
+        return Ok(None);
+    };
+    if is_passed_over(word) {
+        return Ok(None);
+    }
+    Ok(Some(name_on(alloc, line, word)?))
+}
+
+/// The lines of a text. The only error is out of memory.
+fn lines_of(alloc: Global, text: &[u8]) -> Result<Vec<&[u8]>, AllocError>
+    ensures { IfOk result (λ lines. map (λ line. line.now) lines.items ≡ lines_of text.now) }
+{
+    text.split(|octet| *octet == b'\n').collect(alloc)
+}
+
+/// Appends an origin. The only error is out of memory.
+fn push_origin(origins: &mut Vec<Name>, origin: Name) -> Result<(), AllocError>
+    ensures { OnOk result (origins.new.items ≡ origins.old.items ++ origin ∷ []) }
+{
+    origins.push(origin)?;
+    Ok(())
+}
+
+/// The origins of lines, or the refusal of the first word that is no absolute name.
+fn origins_among(alloc: Global, lines: &[&[u8]]) -> Result<Vec<Name>, LineFault>
+    ensures { Gives (λ origins. origins.items) result (origins_from 1 (map (λ line. line.now) lines.now)) }
+{
+    let mut origins = Vec::new(alloc);
+    for (i, line) in lines.iter().enumerate() {
+        if let Some(origin) = origin_on(alloc, i + 1, first_word(line))? {
+            push_origin(&mut origins, origin)?;
+        }
+    }
+    Ok(origins)
+}
+
+/// The origins of a text, whose octets are given back: that of each line is its first word, an absolute name, and what comes after it is
+/// not read. A line without words, one that begins with `#` or `;`, and one whose first word is `elsewhere` are passed over.
+pub(crate) fn origins_in(alloc: Global, text: Vec<u8>) -> Result<OriginList, LineFault>
+    ensures { Gives (λ origins. origins) result (origins_of text.items) }
+{
+    let lines = lines_of(alloc, &text)?;
+    let origins = origins_among(alloc, &lines)?;
+    Ok(OriginList { origins })
+}
