@@ -5,6 +5,7 @@ pub mod PlanLemmas
 pub mod QuestionLemmas
 pub mod ReportLemmas
 pub mod OriginLemmas
+pub mod OriginLaws
 pub mod ReadAgainLemmas
 pub mod ExplainLemmas
 pub mod GuardLaws

@@ -1,8 +1,10 @@
 -- The zones of a list: one a line, by the origin that is the first word of the line.
-use Rattle.std.specs.Prelude.{ℕ, ◌+◌, ◌==◌, List, [], ◌∷◌, ◌++◌, length, Bool, ◌||◌, not, bytes_eq, codes, if◌then◌else◌, Option, Some, None, Result, Ok, Err}
-use Rattle.std.specs.List.{find}
+use Rattle.std.specs.Prelude.{◌≡◌, ℕ, ◌+◌, ◌==◌, List, [], ◌∷◌, ◌++◌, length, map, Bool, false, ◌||◌, not, bytes_eq, codes, if◌then◌else◌, Option, Some, None, Result, Ok, Err}
+use Rattle.std.specs.List.{All, AllByRecursion, find, flat_map}
 use Rattle.std.specs.Option.{option_to_list}
+use Rattle.dns_names.specs.Labels.{IsName}
 use Rattle.dns_names.specs.Reading.{absolute_name}
+use Rattle.dns_names.specs.Spelling.{name_text}
 use Rattle.policy_tools.specs.ExpectationLines.{lines_of}
 use Rattle.policy_tools.specs.ExpectationReading.{parts_of, is_comment}
 use Rattle.cli_core.specs.declared.refusal.Refusal.{Refusal}
@@ -35,3 +37,38 @@ origins_from number (line ∷ lines) =
 -- the origins of a text, in the order of its lines
 abbrev pub origins_of : List ℕ → Result (List (List (List ℕ))) Refusal
 origins_of text = origins_from 1 (lines_of text)
+
+-- ---- what `zones` prints
+
+-- a zone, and what is told of it
+pub record ListedZone : Type 0 where
+  pub origin : List (List ℕ)
+  pub figures : List ℕ
+
+-- the line of a zone
+abbrev pub listed_line : ListedZone → List ℕ
+listed_line z = name_text z.origin ++ 32 ∷ (z.figures ++ 10 ∷ [])
+
+-- the line of receipts of no zone, if there are some
+abbrev pub listed_end : Option (List ℕ) → List ℕ
+listed_end None = []
+listed_end (Some figures) = elsewhere ++ 32 ∷ (figures ++ 10 ∷ [])
+
+abbrev pub IsOneLine : List ℕ → Type 0
+IsOneLine text = All (λ o. (o == 10) ≡ false) text
+
+abbrev pub EndIsOneLine : Option (List ℕ) → Type 0
+EndIsOneLine None = Unit {0}
+EndIsOneLine (Some figures) = IsOneLine figures
+
+-- a zone whose origin is not printed with a `#` at its beginning, which begins a comment
+pub record IsListed (z : ListedZone) : Type 0 where
+  pub valid : IsName z.origin
+  pub plain : is_comment (name_text z.origin) ≡ false
+  pub line : IsOneLine z.figures
+
+-- what `zones` prints of zones is read as their origins
+abbrev pub ListsAreRead : Type 0
+ListsAreRead =
+    (zones : List ListedZone) (end : Option (List ℕ)) → AllByRecursion IsListed zones → EndIsOneLine end
+    → origins_of (flat_map listed_line zones ++ listed_end end) ≡ Ok (map (λ z. z.origin) zones)

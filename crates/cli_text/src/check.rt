@@ -1,5 +1,5 @@
-//! What is true of a policy whatever is asked: which of its rules never decide, what it changes, whether a caller is isolated, and who may
-//! do what. And what is wrong in a zone, or called for by zones.
+//! What is true of a policy whatever is asked: which of its rules never decide, what it changes, what it leaves out of zones, whether a
+//! caller is isolated, and who may do what. And what is wrong in a zone, or called for by zones.
 
 ghost use Rattle.std.specs.Prelude.{◌≡◌, ◌++◌, ◌<◌, ℕ, IfOk, OnOk, decimal, option_map};
 ghost use Rattle.cli_text.specs.ReportLines.{id_text, right_text, other_text};
@@ -375,8 +375,9 @@ fn report_read<R: Input>(
 /// caller from that: `soa`, a name, and a type, an action and a rule by which the caller may see an SOA there; or `shared`, a name, what
 /// the caller may do there, another caller or `*` for any that no rule names, and what that one may do. Of expectations it is a line for
 /// each that is not so: `differs`, its line, and what is decided; or `exceeds`, its line, and a caller, a name, a type, an action and a
-/// rule that grants beyond its limit. Of forward zones it is the PTR records that their addresses call for. Otherwise one line tells the
-/// refusal that comes first: of the caller, that the input is too large, or what is wrong in it.
+/// rule that grants beyond its limit. Of the zones of a list it is what `do_policy_zones` says. Of forward zones it is the PTR records that
+/// their addresses call for. Otherwise one line tells the refusal that comes first: of the caller, that the input is too large, or what is
+/// wrong in it.
 pub fn do_check<R: Input, W: Sink>(
     alloc: Global,
     subject: Subject<'_>,

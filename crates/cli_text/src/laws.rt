@@ -3,6 +3,7 @@
 ghost use Rattle.std.specs.Prelude.{◌≡◌, ◌↔◌, List, ℕ, Some};
 ghost use Rattle.cli_text.specs.Canon.{ZonesAreReadAgain};
 ghost use Rattle.cli_text.specs.Diff.{DiffsLead, DiffsAreMet, DiffsTell, OperationsTell, DiffsHaveRoom, DiffsAreMadeBeside, OperationsAreGuarded, SetsAreEnough, SetsAreTested, NoSoaIsTestedFor, DiffsAreApplied};
+ghost use Rattle.cli_text.specs.OriginLists.{ListsAreRead};
 ghost use Rattle.cli_text.specs.Parts.{Parts, IsDivided, divided};
 ghost use Rattle.cli_text.specs.SplitPromises.{SplitsArePartsOf, SplitsHaveFewItems, AdvancesKeepOrder};
 
@@ -15,6 +16,11 @@ pub fn text_is_divided()
 /// is not too long for a master file.
 pub fn zones_are_read_again()
     ensures { ZonesAreReadAgain }
+{}
+
+/// What `zones` prints is read as the list of its zones, if no origin is printed with a `#` at its beginning.
+pub fn lists_are_read()
+    ensures { ListsAreRead }
 {}
 
 /// The operations between two zones lead from the one to the other, and the prerequisites before them are met in the one. If there are

@@ -48,8 +48,8 @@ pub use diff_fault::DiffFault;
 pub use expect::do_expect;
 pub use expect_fault::ExpectFault;
 pub use laws::{
-    diffs_are_guarded, diffs_lead, guards_test_sets, splits_are_parts, text_is_divided,
-    zones_are_read_again,
+    diffs_are_guarded, diffs_lead, guards_test_sets, lists_are_read, splits_are_parts,
+    text_is_divided, zones_are_read_again,
 };
 pub use plan::{do_plan, push_signed};
 pub use plan_fault::PlanFault;

@@ -185,7 +185,8 @@ pub fn do_policy_zones<R: Input, N: Input, W: Sink>(
         Ok(policy) => policy,
         Err(fault) => return Err(PolicyZonesFault::Policy(fault)),
     };
-    match do_check(alloc, Subject::Zones(&policy, reader.as_ref()), zones, writer) {
+    let subject = Subject::Zones(&policy, reader.as_ref());
+    match do_check(alloc, subject, zones, writer) {
         Ok(findings) => Ok(findings),
         Err(fault) => Err(PolicyZonesFault::Zones(fault)),
     }
