@@ -32,7 +32,7 @@ fn prerequisites_in(
 }
 
 /// The items that lead from a zone to another of its origin. The only error is out of memory.
-fn items_between(
+pub fn items_between(
     alloc: Global,
     form: DiffForm,
     old: &Zone,

@@ -43,7 +43,7 @@ pub use apply::Apply;
 pub use canon::{print_zone_in, read_name, read_zone};
 pub use changes_fault::ChangesFault;
 pub use check::{Findings, Subject, do_check, name_if};
-pub use diff::do_diff;
+pub use diff::{do_diff, items_between};
 pub use diff_fault::DiffFault;
 pub use expect::do_expect;
 pub use expect_fault::ExpectFault;
