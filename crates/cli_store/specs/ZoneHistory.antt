@@ -28,8 +28,8 @@ use Rattle.cli_core.specs.LineFaults.{◌>>=◌, of_names, of_store, of_zones, G
 use Rattle.cli_text.specs.Canon.{zone_text_in}
 use Rattle.cli_text.specs.Check.{name_if}
 use Rattle.cli_text.specs.Diff.{items_between}
-use Rattle.cli_store.specs.declared.blame.BlameAsked.{BlameAsked}
-use Rattle.cli_store.specs.declared.undo.Undone.{Undone}
+use Rattle.cli_store.specs.declared.zone_blame.BlameAsked.{BlameAsked}
+use Rattle.cli_store.specs.declared.zone_undo.Undone.{Undone}
 use Rattle.cli_store.specs.declared.zone_history.ZoneHistory.{ZoneHistory}
 use Rattle.cli_store.specs.Export.{ExportWritten, ZoneExported}
 use Rattle.cli_store.specs.Log.{passes}

@@ -3,7 +3,6 @@
 #![tactic(auto)]
 
 mod beginning;
-mod blame;
 mod diagnosis;
 mod files;
 mod folding;
@@ -24,13 +23,13 @@ mod store_log;
 mod streams;
 mod surroundings;
 mod table_job;
-mod undo;
+mod zone_blame;
 mod zone_history;
 mod zone_list;
 mod zone_log;
+mod zone_undo;
 mod zones;
 
-pub use blame::{BlameAsked, blame};
 pub use cli_core::{JobFault, LineFault, NO_MEMORY_LINE, read_path};
 pub use diagnosis::Remembered;
 pub use dns_master::DeviceFailed;
@@ -47,6 +46,7 @@ pub use store_list::list_zones;
 pub use store_log::log;
 pub use streams::{Streams, run_words};
 pub use surroundings::Surroundings;
-pub use undo::{Undone, undo};
+pub use zone_blame::{BlameAsked, blame};
 pub use zone_history::ZoneHistory;
+pub use zone_undo::{Undone, undo};
 pub use zones::{export, import};

@@ -7,7 +7,6 @@ ghost use Rattle.cli_text.specs.Plan.{IsPlanned};
 ghost use Rattle.cli_store.specs.Stores.{stores_of};
 ghost use Rattle.cli_store.specs.Program.{Ends, EndsTask, EndsCheck, EndsChanges, EndsCheckOf, EndsExpectedBy, EndsExpected, EndsZonesBy, EndsZones, EndsTaskOf, IsInquiredOf, AnswerEnds, DiffersBy, named, standard, requested, CheckEnds, TextJobEnds, StoreJobEnds, JobEnds, EndsFault, WordsEnd, IsToldWhole, status_of, check_status_of};
 
-use crate::blame::blame;
 use crate::files::StoreFiles;
 use crate::migration::migrate;
 use crate::past_zone::export_by;
@@ -15,7 +14,8 @@ use crate::service::serve;
 use crate::store_list::list_zones;
 use crate::store_log::log;
 use crate::surroundings::{Ended, NamedFile, Surroundings};
-use crate::undo::{Undone, undo};
+use crate::zone_blame::blame;
+use crate::zone_undo::{Undone, undo};
 use crate::zones::import;
 use cli_core::{
     Answer, Check, DiffForm, Input, Job, JobFault, NO_MEMORY_LINE, RequestForm, StoreJob, TextJob,

@@ -52,7 +52,10 @@ impl TableJob<ZoneHistory> for HistoryOf<'_> {
 fn later(changes: &[Change], number: u64) -> Option<&[Change]>
     ensures { option_map (λ cs. map change_in cs.now) result ≡ later number (map change_in changes.now) }
 {
-    changes.get(number as usize..)
+    if number <= changes.len() as u64 {
+        return Some(&changes[number as usize..]);
+    }
+    None
 }
 
 impl ZoneHistory {

@@ -7,7 +7,7 @@ use Rattle.cli_core.specs.LineFaults.{of_names}
 use Rattle.cli_store.specs.ZoneHistory.{history_in, undo_text, IsHistoryRead}
 use Rattle.cli_store.proofs.FilesLemmas.{got_seen}
 use Rattle.cli_store.proofs.HistoryLemmas.{told_made}
-use Rattle.cli_store.proofs.undo.undo.Goals as goal
+use Rattle.cli_store.proofs.zone_undo.undo.Goals as goal
 
 pub returns-in-Ok : goal.returns-in-Ok
 returns-in-Ok g c =

@@ -1,4 +1,4 @@
-use Rattle.cli_store.proofs.blame.blame.Given as goal
+use Rattle.cli_store.proofs.zone_undo.undo.Given as goal
 
 abbrev pub ghosts-asked_by : goal.ghosts-asked_by
 ghosts-asked_by g a = record { name = a.blank.name; parts = a.blank.parts }

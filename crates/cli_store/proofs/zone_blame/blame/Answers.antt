@@ -2,11 +2,11 @@ use Rattle.std.proofs.Common.{option_map, inl, refl, Ok, Err}
 use Rattle.std.specs.Prelude.{string_bytes}
 use Rattle.std.specs.Result.{result_map_both}
 use Rattle.sqlite.specs.Held.{state}
-use Rattle.cli_store.specs.declared.blame.BlameAsked.{BlameAsked}
+use Rattle.cli_store.specs.declared.zone_blame.BlameAsked.{BlameAsked}
 use Rattle.cli_store.specs.ZoneHistory.{blame_asked, blame_text, history_in, IsHistoryRead}
 use Rattle.cli_store.proofs.FilesLemmas.{got_seen}
 use Rattle.cli_store.proofs.HistoryLemmas.{told_made}
-use Rattle.cli_store.proofs.blame.blame.Goals as goal
+use Rattle.cli_store.proofs.zone_blame.blame.Goals as goal
 
 pub returns-in-Ok : goal.returns-in-Ok
 returns-in-Ok g c =
