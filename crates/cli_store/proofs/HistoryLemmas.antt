@@ -1,5 +1,5 @@
 -- What is read of the history of a zone of a store, and what is made of it.
-use Rattle.std.proofs.Common.{◌≡◌, inl, inr, ℕ, Bool, List, Option, Some, None, option_map, Result, Ok, Err, refl, sym, ap, subst, ◌∙◌}
+use Rattle.std.proofs.Common.{◌≡◌, inl, inr, ℕ, ◌≤◌, Bool, true, cond, nat_le, List, length, drop, Option, Some, None, option_map, Result, Ok, Err, refl, sym, ap, subst, ◌∙◌, arith}
 use Rattle.std.specs.Result.{result_map_both}
 use Rattle.sqlite.specs.State.{State as Shown}
 use Rattle.dns_names.specs.Reading.{absolute_name}
@@ -17,7 +17,7 @@ use Rattle.cli_core.specs.LineFaults.{◌>>=◌, of_store, Gives}
 use Rattle.cli_core.specs.declared.line_fault.JobFault.{JobFault}
 use Rattle.cli_store.specs.Reports.{IsShown}
 use Rattle.cli_store.specs.Stores.{IsGot}
-use Rattle.cli_store.specs.ZoneHistory.{IsHistoryRead, IsOfHistory, IsToldOf}
+use Rattle.cli_store.specs.ZoneHistory.{later, IsHistoryRead, IsOfHistory, IsToldOf}
 
 -- ---- what is held
 
@@ -51,6 +51,13 @@ no_changes_held s origin same = none_listed (s.zones origin) same
 -- rows are the listing of their set
 pub rows_are : (rs : List Record) (whole : Records) → AreRows rs whole → rs ≡ listing whole
 rows_are rs whole rows = sym (listing_of rs rows.order) ∙ ap listing rows.set
+
+-- there are so many changes
+pub picked : (n : ℕ) (cs : List ChangeOf) → n ≤ length cs → later n cs ≡ Some (drop n cs)
+picked n cs few = ap (λ (b : Bool). cond b (Some (drop n cs)) None) (test n (length cs) few)
+  where
+    test : (a b : ℕ) → a ≤ b → nat_le a b ≡ true
+    test a b h = grind (arith, h)
 
 -- ---- what is made of it
 

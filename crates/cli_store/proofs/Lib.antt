@@ -8,6 +8,7 @@ pub mod TextExamples
 pub mod ListLemmas
 pub mod LoggedLemmas
 pub mod HistoryLemmas
+pub mod BlameLemmas
 pub mod StreamLemmas
 pub mod ServedLemmas
 pub mod DeedLemmas

@@ -1,6 +1,6 @@
 //! The job `blame`: the records of a zone of a store, each with the change that brought it.
 
-ghost use Rattle.std.specs.Prelude.{◌≡◌, ◌++◌, IfOk, OnOk, map, option_map, string_bytes};
+ghost use Rattle.std.specs.Prelude.{◌≡◌, ◌++◌, IfOk, OnOk, length, map, option_map, string_bytes};
 ghost use Rattle.std.specs.List.{flat_map, zip};
 ghost use Rattle.std.specs.Result.{result_map_both};
 ghost use Rattle.sqlite.specs.Held.{state};
@@ -62,14 +62,14 @@ fn push_blamed(
     text: &mut String,
     name: &Option<Name>,
     rr: &Record,
-    bringer: Option<u64>,
+    bringer: &Option<u64>,
 ) -> Result<(), AllocError>
-    ensures { OnOk result (string_bytes text.new ≡ string_bytes text.old ++ blame_line name.now (rr.now, bringer)) }
+    ensures { OnOk result (string_bytes text.new ≡ string_bytes text.old ++ blame_line name.now (rr.now, bringer.now)) }
 {
     if !is_asked(name, rr) {
         return Ok(());
     }
-    let number = bringer.unwrap_or(0);
+    let number = (*bringer).unwrap_or(0);
     writeln!(text, "{number} {rr}")
 }
 
@@ -80,11 +80,12 @@ fn blamed_text(
     records: &[Record],
     found: &[Option<u64>],
 ) -> Result<String, AllocError>
+    requires { length found.now ≡ length records.now }
     ensures { IfOk result (λ text. string_bytes text ≡ flat_map (blame_line name.now) (zip records.now found.now)) }
 {
     let mut text = String::new(alloc);
-    for (record, bringer) in records.iter().zip(found.iter()) {
-        push_blamed(&mut text, name, record, *bringer)?;
+    for i in 0..records.len() {
+        push_blamed(&mut text, name, &records[i], &found[i])?;
     }
     Ok(text)
 }
