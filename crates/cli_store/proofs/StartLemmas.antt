@@ -338,9 +338,9 @@ module _ {A F C H P : Type 0} (w : Setting A F C H P) (law : (conn : C) → Sett
 
     told_of : {A : Type 0} (path : List ℕ) (words : Result A Refusal) (origin : A → List (List ℕ)) (answer : A → Held → Result (List ℕ) Refusal) (made : Result (List ℕ) LineFault)
         → IsToldOf w.shows words origin answer (w.finds st.files path) (w.refuses st.files path) (w.connects st.files path) st.left made → HasState next s
-    told_of path words origin answer (Ok text) (asked, e, (held, holds, text_is)) = got path (IsHistoryRead (origin asked)) (λ now after r does. does.0.0) (Ok held) holds
+    told_of path words origin answer (Ok text) (asked, e, (known, holds, text_is)) = got path (IsHistoryRead (origin asked)) (λ now after r does. does.0.0) (Ok known) holds
     told_of path words origin answer (Err fault) (inl (given, none)) = unread none
-    told_of path words origin answer (Err fault) (inr (asked, e, inl (held, holds, none))) = got path (IsHistoryRead (origin asked)) (λ now after r does. does.0.0) (Ok held) holds
+    told_of path words origin answer (Err fault) (inr (asked, e, inl (known, holds, none))) = got path (IsHistoryRead (origin asked)) (λ now after r does. does.0.0) (Ok known) holds
     told_of path words origin answer (Err fault) (inr (asked, e, inr (refusal, fault_is, holds))) = got path (IsHistoryRead (origin asked)) (λ now after r does. does.0.0) (Err refusal) holds
 
     exported_by : (path word : List ℕ) (at : Option ℕ) (form : ZoneForm) (old new : Option (List ℕ)) (result : Result (Unit {0}) JobFault) (writes writes_after : ℕ)
