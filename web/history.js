@@ -1,10 +1,13 @@
 // What changed, who changed it and when, and how to take it back. What was read is kept in the browser; only what is new is asked for,
 // since a long history keeps others waiting.
 
-import {$, afterTyping, button, code, make, say} from "./elements.js";
+import {$, afterTyping, code, make, say} from "./elements.js";
 import {putIn} from "./draft.js";
+import {operationsOf} from "./edits.js";
+import {pointsOfLine} from "./judge.js";
+import {ableButton, recordLink} from "./marks.js";
 import {toUnicode} from "./names.js";
-import {mine, readList} from "./office.js";
+import {askRights, mine, readList} from "./office.js";
 import {readRecords} from "./reading.js";
 import {state, store, stored} from "./state.js";
 import {clock, dateTime, t} from "./text.js";
@@ -14,6 +17,7 @@ import {ttlText} from "./data.js";
 const KEPT = 200; // changes that the browser keeps
 const PAGE = 20; // changes that are shown at once
 const MOST_LINES = 200; // of one change
+const MOST_QUESTIONS = 10; // of one change; more are left to the plan
 
 let changes = []; // the oldest first
 let shown = PAGE;
@@ -41,7 +45,9 @@ export async function readChanges(isAll = false) {
         store(key(), kept.slice(-10)); // large changes
     }
     showChanges();
-    say(changes.length ? t("historyRead", changes.at(-1).number, clock()) : t("noHistory", state.zone.origin));
+    if (state.view === "changes") { // it may have been left meanwhile
+        say(changes.length ? t("historyRead", changes.at(-1).number, clock()) : t("noHistory", state.zone.origin));
+    }
 }
 
 /** Records that went and came at one name and type are what became of one another. */
@@ -60,12 +66,11 @@ export function movesOf({removed, added}) {
 function moveItem({old, now}) {
     const {name, type} = now ?? old;
     const letters = toUnicode(name);
-    const link = make("a", {href: `#records/${encodeURIComponent(state.zone.origin)}?record=${encodeURIComponent(name)}`}, code(name));
     const kind = old && now ? "changed" : now ? "came" : "went";
     const sign = {changed: "↔", came: "+", went: "−"}[kind];
     const value = old && now && old.data === now.data ? [code(now.data), ` ${t("ttl")} `, make("del", {}, ttlText(old.ttl)), " → ", make("ins", {}, ttlText(now.ttl))]
         : [...(old ? [make("del", {}, old.data)] : []), ...(old && now ? [" → "] : []), ...(now ? [make("ins", {}, now.data)] : [])];
-    return make("li", {}, make("span", {class: kind}, `${sign} ${t(kind)}`), " ", link, letters ? ` (${letters})` : "", ` ${type} `, ...value);
+    return make("li", {}, make("span", {class: kind}, `${sign} ${t(kind)}`), " ", recordLink(name, code(name)), letters ? ` (${letters})` : "", ` ${type} `, ...value);
 }
 
 function changeItem(change) {
@@ -75,7 +80,7 @@ function changeItem(change) {
     const who = by ? [make("p", {class: "soft"}, [by.person && by.person !== by.caller ? `${by.person} (${by.caller})` : by.caller, dateTime(by.time)].join(", "),
         ...(by.id && !by.id.startsWith("page-") ? [" ", code(by.id)] : []))] : [];
     const more = moves.length > MOST_LINES ? [make("li", {}, t("andMore", moves.length - MOST_LINES))] : [];
-    const revert = moves.length ? [button(t("revert"), () => revertChange(change), {"aria-label": t("revertLabel", number)})] : [];
+    const revert = moves.length ? [revertButton(change)] : [];
     return make("li", {}, make("h3", {tabindex: "-1"}, t("changeNumber", number)), ...who,
         moves.length ? make("ul", {class: "difference"}, ...moves.slice(0, MOST_LINES).map(moveItem), ...more) : make("p", {class: "soft"}, t("serialOnly")), ...revert);
 }
@@ -84,15 +89,14 @@ export function showChanges() {
     const words = $("changes-filter").value.toLowerCase().split(/\s+/).filter(Boolean);
     const text = ({removed, added, number}) => [...removed, ...added, ...Object.values(trail[number] ?? {})].join("\n").toLowerCase();
     const found = words.length ? changes.filter((change) => words.every((word) => text(change).includes(word))) : changes;
-    $("changes-list").replaceChildren(...found.slice(-shown).reverse().map(changeItem));
+    const seen = found.slice(-shown).reverse();
+    $("changes-list").replaceChildren(...seen.map(changeItem));
+    askSeen(seen);
     $("changes-more").hidden = found.length <= shown && ((changes[0]?.number ?? 1) === 1 || words.length > 0);
 }
 
-/** The opposite of a change, as edits that are guarded by what is there now. What is not as it was made is left alone. */
-async function revertChange(change) {
-    if (!await readRecords()) {
-        return;
-    }
+/** The opposite of a change, as edits of what is there now; what is not as it was made is left alone. */
+function oppositeOf(change) {
     const edits = [];
     const skipped = [];
     for (const {old, now} of movesOf(change)) {
@@ -105,6 +109,36 @@ async function revertChange(change) {
             edits.push({...(there && {old: there}), ...(old && {now: old})});
         }
     }
+    return {edits, skipped};
+}
+
+const pointsToRevert = (change) =>
+    pointsOfLine({operations: oppositeOf(change).edits.flatMap((edit) => operationsOf(edit, state.zone))}).slice(0, MOST_QUESTIONS);
+
+const revertButton = (change) => ableButton(t("revert"), () => revertChange(change), pointsToRevert(change), t("revertLabel", change.number), {"data-number": change.number});
+
+/** Asks whether these changes may be taken back, and greys the buttons of those that may not. */
+async function askSeen(seen) {
+    await askRights(seen.flatMap(pointsToRevert));
+    for (const change of seen) {
+        const there = $("changes-list").querySelector(`[data-number="${change.number}"]`);
+        const fresh = there && revertButton(change);
+        if (fresh && fresh.title !== there.title) {
+            const hasFocus = there === document.activeElement;
+            there.replaceWith(fresh);
+            if (hasFocus) {
+                fresh.focus();
+            }
+        }
+    }
+}
+
+/** Puts the opposite of a change into the draft, where it is guarded by what is there now. */
+async function revertChange(change) {
+    if (!await readRecords()) {
+        return;
+    }
+    const {edits, skipped} = oppositeOf(change);
     if (edits.length) {
         putIn(edits, {group: `revert ${change.number}`});
         location.hash = "review";

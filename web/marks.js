@@ -2,7 +2,7 @@
 
 import {button, make} from "./elements.js";
 import {isReverse, toUnicode, relative} from "./names.js";
-import {decidedBy, rightOf} from "./office.js";
+import {decidedBy, denied, rightOf} from "./office.js";
 import {isSilent, stopsZone} from "./rules.js";
 import {state} from "./state.js";
 import {t} from "./text.js";
@@ -37,13 +37,16 @@ export function mailLink(denials = []) {
 
 export const deniedText = ({action, name, type, by}) => t("youLack", t(`action ${action}`), type, own(name), decidedBy(by));
 
-/** A button that is grey where the policy denies what it does, with the reason. */
-export function ableButton(text, press, point, label, more = {}) {
-    const right = rightOf(point);
-    const isOff = right?.granted === false;
-    const reason = isOff ? deniedText({...point, ...right}) : undefined;
-    return button(text, isOff ? () => undefined : press, {"aria-label": isOff ? `${label}: ${reason}` : label, "aria-disabled": isOff ? "true" : false, title: reason, ...more});
+/** A button that is grey where the policy denies one of the points that it asks for, with the reason. */
+export function ableButton(text, press, points, label, more = {}) {
+    const [lack] = denied([points].flat());
+    const reason = lack && deniedText(lack);
+    return button(text, lack ? () => undefined : press, {"aria-label": lack ? `${label}: ${reason}` : label, "aria-disabled": lack ? "true" : false, title: reason, ...more});
 }
+
+/** A link to the records of a name in the table. */
+export const recordLink = (name, ...shown) =>
+    make("a", {href: `#records/${encodeURIComponent(state.zone.origin)}?record=${encodeURIComponent(name)}`}, ...shown);
 
 function rightMarks({denied, unchecked, points, isHeld}) {
     if (denied.length) {
