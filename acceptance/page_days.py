@@ -392,6 +392,10 @@ def is_it_live(phys, named):
     expect("a name server refuses it: who sees the record is told why, whose it is and when",
            (refusing, f"Not published: the name servers refuse “{p('your_pc')[:-1]}: bad owner name (check-names)” (phys, change {number}, " in mine), (["bind"], True))
     phys.pictures("held")
+    phys.tab_to("it.closest('#live')")
+    phys.keys(Keys.ENTER)
+    phys.wait("document.activeElement.closest('tr.found')", "the record")
+    expect("the name in that line leads to the record, by the keyboard too", phys.js("return document.activeElement.ariaLabel"), f"Change {p('your_pc')} A 192.0.2.86")
     phys.sign_in("lib")
     theirs = live_of(phys, named)
     expect("others learn that a record of another holds it up, and no more", ("Held up by a record of another" in theirs, "your_pc" in theirs), (True, False))

@@ -1,6 +1,7 @@
 // Whether what was changed is live: from the states that the office's machine writes for each user, where it does.
 
 import {$, make} from "./elements.js";
+import {recordLink} from "./marks.js";
 import {askMine} from "./office.js";
 import {announce, on, state, store, stored} from "./state.js";
 import {ago, clock, t} from "./text.js";
@@ -21,7 +22,23 @@ function savedSince() {
     return saved && written <= saved.time && Date.now() - saved.at < LONGEST ? saved.at : null;
 }
 
-function words({state: kind, serial, served, since, reason, change, caller, others}) {
+/** A reason, in which the names of records that it is about lead to them. */
+function linked(reason) {
+    return reason.split(/(?<=; )/).flatMap((part) => {
+        const [word] = /^[^\s:;]*/.exec(part);
+        const name = `${word.replace(/\.$/, "")}.`;
+        return state.zone.names.has(name) ? [recordLink(name, word), part.slice(word.length)] : [part];
+    });
+}
+
+function heldWords({since, reason, change, caller}) {
+    const who = [caller, change === undefined ? null : t("changeNumber", change), clock(since)].filter(Boolean).join(", ");
+    const [before, after] = t("isHeld", "\n", who).split("\n");
+    return [before, ...linked(reason), after];
+}
+
+/** The kind of a state, and its words. */
+function words({state: kind, serial, served, since, reason, others, ...more}) {
     if (kind === "published") {
         const saved = savedSince();
         return saved ? ["warn", t("isSaved", clock(saved), serial)] : ["good", t("isLive", serial, ago(since))];
@@ -32,17 +49,18 @@ function words({state: kind, serial, served, since, reason, change, caller, othe
     if (kind !== "held") {
         return null;
     }
-    return ["bad", reason === undefined || others ? t("isHeldByOthers", ago(since))
-        : t("isHeld", reason, [caller, change === undefined ? null : t("changeNumber", change), clock(since)].filter(Boolean).join(", "))];
+    return ["bad", ...(reason === undefined || others ? [t("isHeldByOthers", ago(since))] : heldWords({since, reason, ...more}))];
 }
 
 function show() {
     const said = states?.[state.zone.origin];
-    const found = said && words(said);
-    $("live").hidden = !found;
-    if (found) {
-        $("live").className = found[0];
-        $("live").replaceChildren(make("span", {"aria-hidden": "true"}, "● "), found[1]);
+    const [kind, ...parts] = (said && words(said)) ?? [];
+    const hadFocus = $("live").contains(document.activeElement);
+    $("live").hidden = !kind;
+    $("live").className = kind ?? "";
+    $("live").replaceChildren(make("span", {"aria-hidden": "true"}, "● "), ...parts);
+    if (hadFocus) {
+        ($("live").querySelector("a") ?? $("main")).focus();
     }
 }
 

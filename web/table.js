@@ -188,7 +188,9 @@ function redraw(record) {
     const focused = record.row.contains(document.activeElement);
     const wasCurrent = record.row.contains(current);
     const place = record.row.contains(document.activeElement) ? [...record.row.querySelectorAll("button")].indexOf(document.activeElement) : 0;
+    const isFound = record.row.classList.contains("found");
     record.row.replaceWith(recordRow(record, record.place));
+    record.row.classList.toggle("found", isFound);
     const buttons = record.row.querySelectorAll("button");
     if (wasCurrent) {
         reach(buttons[Math.min(place, buttons.length - 1)]);
@@ -283,8 +285,12 @@ function download() {
 export function goTo(name) {
     const at = filtered.findIndex((record) => record.name === name);
     const found = at >= 0 ? rowAt(at) : null;
-    found?.scrollIntoView({block: "center"});
-    found?.classList.add("found");
+    if (found) {
+        found.classList.add("found");
+        reach(found.querySelector("button"));
+        current.focus();
+        found.scrollIntoView({block: "center"});
+    }
     return Boolean(found);
 }
 
