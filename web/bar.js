@@ -50,7 +50,7 @@ function showBar() {
     $("bar-count").textContent = t("changes", count);
     $("bar-what").textContent = summary();
     $("undo").disabled = !canUndo();
-    $("bar-review").hidden = count === 0;
+    $("bar-review").hidden = count === 0 || state.view === "review";
     const able = sendable(judged).length;
     const isBusy = state.waiting.size > 0;
     for (const id of ["draft-send", "review-send"]) {
