@@ -24,7 +24,9 @@ export async function readDelegations() {
     checked = children?.[state.zone.origin] ?? {};
     await askRights([...list.map(({child}) => delegatePoint(child)), ...strays().map(strayPoint)]);
     showTree();
-    say(t("delegationsRead", list.length, state.zone.origin, clock()));
+    if (state.view === "delegations") { // it may have been left meanwhile
+        say(t("delegationsRead", list.length, state.zone.origin, clock()));
+    }
 }
 
 /** Addresses in a delegated part that no server has the name of any more. */

@@ -10,7 +10,7 @@ import {readChanges, startHistory} from "./history.js";
 import {startLive} from "./live.js";
 import {forgetRights, inWords, mine, request} from "./office.js";
 import {isReverse} from "./names.js";
-import {readRecords} from "./reading.js";
+import {readRecords, sayRead} from "./reading.js";
 import {askTyped, startRights} from "./rights.js";
 import {keptJobs, resume} from "./sending.js";
 import {announce, state, store, stored} from "./state.js";
@@ -20,8 +20,10 @@ import {language, t} from "./text.js";
 import {Zone} from "./zone.js";
 
 const ensure = async () => state.isRead || readRecords();
+/** Says again when the records were read, if the status line is about the view that was left. */
+const returnTo = async (left) => (state.isRead && ["delegations", "changes", "rights"].includes(left) ? sayRead() : ensure());
 const READERS = {
-    records: ensure,
+    records: returnTo,
     review: ensure,
     delegations: async () => (await ensure(), readDelegations()),
     changes: async () => (await ensure(), readChanges()),
@@ -60,6 +62,7 @@ async function follow(isFirst = false) {
 }
 
 async function showView(view, focus) {
+    const left = state.view;
     state.view = view;
     for (const section of document.querySelectorAll(".view")) {
         section.hidden = section.id !== `${view}-view`;
@@ -78,7 +81,7 @@ async function showView(view, focus) {
         showRecords();
     }
     writeAddress();
-    return READERS[view]();
+    return READERS[view](left);
 }
 
 function takeZone(origin) {

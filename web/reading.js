@@ -7,6 +7,9 @@ import {clock, t} from "./text.js";
 import {readLine, Zone} from "./zone.js";
 
 const AT_ONCE = 2000; // lines that are read without a pause
+let when = ""; // the records of the zone were read
+
+export const sayRead = () => say(t("readAt", state.zone.records.length, state.zone.origin, when));
 
 /** Reads the records that the caller may list. Gives whether they came. */
 export async function readRecords() {
@@ -27,7 +30,8 @@ export async function readRecords() {
         return false;
     }
     Object.assign(state, {zone, isRead: true});
+    when = clock();
     announce("zone");
-    say(t("readAt", zone.records.length, origin, clock()));
+    sayRead();
     return true;
 }
