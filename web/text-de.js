@@ -229,7 +229,7 @@ export default {
 
     // history
     historyWhat: "Was sich an den Einträgen änderte, die Sie sehen dürfen, wer auch immer es war; das Neueste zuerst.",
-    historyFind: "Darin suchen",
+    historyFind: "Im Verlauf suchen",
     readNew: "Neues lesen",
     readAll: "Alles neu lesen",
     showOlder: "Ältere zeigen",
@@ -239,8 +239,8 @@ export default {
     serialOnly: "Nur die Seriennummer änderte sich, oder was Sie nicht sehen dürfen.",
     revert: "Zurücknehmen",
     revertLabel: "Änderung {0} zurücknehmen",
-    revertReady: (number) => `${edits(number)} nehmen sie zurück, noch nicht gesendet.`,
-    revertSkipped: (number, names) => `${edits(number)} nehmen sie zurück. In Ruhe gelassen, da seither anders: ${names}.`,
+    revertReady: (number) => `Zum Zurücknehmen: ${edits(number)}, noch nicht gesendet.`,
+    revertSkipped: (number, names) => `Zum Zurücknehmen: ${edits(number)}. In Ruhe gelassen, da seither anders: ${names}.`,
 
     // rights
     rightsWhat: "Was die Regeln Ihnen erlauben, und welche Regel entscheidet.",

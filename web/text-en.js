@@ -227,7 +227,7 @@ export default {
 
     // history
     historyWhat: "What changed among the records that you may list, whoever changed it; the newest first.",
-    historyFind: "Find in it",
+    historyFind: "Find in the history",
     readNew: "Read what is new",
     readAll: "Read all anew",
     showOlder: "Show older ones",
@@ -237,8 +237,8 @@ export default {
     serialOnly: "Only the serial changed, or what you may not list.",
     revert: "Revert",
     revertLabel: "Revert change {0}",
-    revertReady: (number) => `${count(number, "change")} that take it back, not sent yet.`,
-    revertSkipped: (number, names) => `${count(number, "change")} that take it back. Left alone, since it changed again: ${names}.`,
+    revertReady: (number) => `To take it back: ${count(number, "change")}, not sent yet.`,
+    revertSkipped: (number, names) => `To take it back: ${count(number, "change")}. Left alone, since it changed again: ${names}.`,
 
     // rights
     rightsWhat: "What the policy lets you do, and the rule that decides.",

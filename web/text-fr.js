@@ -228,7 +228,7 @@ export default {
 
     // history
     historyWhat: "Ce qui a changé parmi les enregistrements que vous pouvez voir, par qui que ce soit ; le plus récent d’abord.",
-    historyFind: "Y chercher",
+    historyFind: "Chercher dans l’historique",
     readNew: "Lire le nouveau",
     readAll: "Tout relire",
     showOlder: "Montrer les plus anciens",
