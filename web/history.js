@@ -11,7 +11,7 @@ import {askRights, mine, readList} from "./office.js";
 import {readRecords} from "./reading.js";
 import {state, store, stored} from "./state.js";
 import {clock, dateTime, t} from "./text.js";
-import {readLine} from "./zone.js";
+import {isSame, readLine} from "./zone.js";
 import {ttlText} from "./data.js";
 
 const KEPT = 200; // changes that the browser keeps
@@ -44,10 +44,19 @@ export async function readChanges(isAll = false) {
     if (!store(key(), kept)) {
         store(key(), kept.slice(-10)); // large changes
     }
+    if (news.length && isUnread(news.at(-1))) {
+        await readRecords();
+    }
     showChanges();
     if (state.view === "changes") { // it may have been left meanwhile
         say(changes.length ? t("historyRead", changes.at(-1).number, clock()) : t("noHistory", state.zone.origin));
     }
+}
+
+/** Whether the records were read before a change, the last one. */
+function isUnread({removed, added}) {
+    const [went, came] = [removed, added].map((lines) => lines.map(readLine));
+    return came.some((record) => !state.zone.find(record)) || went.some((record) => state.zone.find(record) && !came.some((one) => isSame(one, record)));
 }
 
 /** Records that went and came at one name and type are what became of one another. */
