@@ -95,7 +95,7 @@ asks_check (check.Policy policy against) = (
   subject (codes "policy") ∷ (argument.CheckedPolicy, given policy.now) ∷ (argument.Against, text (option_map (λ p. p.now) against))
       ∷ (argument.Zones, text None) ∷ (argument.Reader, text None) ∷ [],
 )
-asks_check (check.Scopes policy zones reader) = (
+asks_check (check.PolicyZones policy zones reader) = (
   command.Check,
   subject (codes "policy") ∷ (argument.CheckedPolicy, given policy.now) ∷ (argument.Against, text None) ∷ (argument.Zones, given zones.now)
       ∷ (argument.Reader, text (option_map (λ r. r.now) reader)) ∷ [],

@@ -1,5 +1,5 @@
 -- Lines of records with the changes that brought them.
-use Rattle.std.proofs.Common.{◌≡◌, ℕ, zero, suc, ◌+◌, ◌<◌, ◌≤◌, List, [], ◌∷◌, ◌++◌, length, get_or, take, slice_index_or, append-nil, append_assoc, refl, sym, ap, ◌∙◌, arith}
+use Rattle.std.proofs.Common.{◌≡◌, ℕ, zero, suc, ◌+◌, ◌<◌, ◌≤◌, List, [], ◌∷◌, ◌++◌, length, map, get_or, take, slice_index_or, append-nil, append_assoc, refl, sym, ap, ◌∙◌, arith}
 use Rattle.std.specs.List.{flat_map, zip}
 
 module _ {X Y : Type 0} (f : X × Y → List ℕ) where
@@ -25,3 +25,8 @@ zip_end zero (a ∷ xs) ys few = absurd (omega (arith, few))
 zip_end (suc i) [] ys few = refl
 zip_end (suc i) (a ∷ xs) [] few = refl
 zip_end {X} {Y} (suc i) (a ∷ xs) (b ∷ ys) few = ap (λ (rest : List (X × Y)). (a, b) ∷ rest) (zip_end i xs ys (omega (arith, few)))
+
+-- pairs of values and what is made of each
+pub zip_with : {X Y : Type 0} (f : X → Y → List ℕ) (g : X → Y) (xs : List X) → flat_map (λ (p : X × Y). f p.0 p.1) (zip xs (map g xs)) ≡ flat_map (λ x. f x (g x)) xs
+zip_with f g [] = refl
+zip_with f g (x ∷ xs) = ap (λ (rest : List ℕ). f x (g x) ++ rest) (zip_with f g xs)

@@ -370,7 +370,7 @@ module _ {A F C H P : Type 0} (w : Setting A F C H P) (law : (conn : C) → Sett
     stored_job (store_job.Blame words) status (idle, unread, (outcome, (made, is_made, told), status_is)) =
         stays s next (told_of words.zone.store.now (blame_asked words.zone.origin.now (option_map (λ n. n.now) words.name)) (λ asked. asked.origin) (λ asked held. Ok (blame_text asked held)) made is_made)
     stored_job (store_job.Undo words) status (idle, unread, (outcome, (made, is_made, told), status_is)) =
-        stays s next (told_of words.zone.store.now (of_names (absolute_name words.zone.origin.now)) (λ origin. origin) (undo_text (record { first = words.first; last = words.last })) made is_made)
+        stays s next (told_of words.zone.store.now (of_names (absolute_name words.zone.origin.now)) (λ origin. origin) (undo_text words.first words.last) made is_made)
     stored_job (store_job.Migrate words) status (idle, unread, (outcome, (written, (made, is_made, told)), status_is)) = stays s next (migrates words.store.now made is_made)
     stored_job (store_job.Serve service) status (unread, (outcome, is_served, status_is)) = comes_so s next (λ c all. (outcome, all, status_is)) (serves service outcome is_served)
 

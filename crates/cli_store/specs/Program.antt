@@ -186,7 +186,7 @@ abbrev pub CheckEnds : {H : Type 0} → Around H → Reading → Writing → Che
 CheckEnds a i o (check.Policy policy None) status = IsUnread i × EndsCheck Rules (a.file policy.now) ⊤ (a.unreadable policy.now) o status
 CheckEnds a i o (check.Policy policy (Some against)) status = IsUnread i × EndsChanges a against.now policy.now o status
 CheckEnds a i o (check.Expect policy file) status = EndsExpected a i policy.now (option_map (λ f. f.now) file) o status
-CheckEnds a i o (check.Scopes policy zones reader) status = EndsZones a i policy.now (option_map (λ r. r.now) reader) zones.now o status
+CheckEnds a i o (check.PolicyZones policy zones reader) status = EndsZones a i policy.now (option_map (λ r. r.now) reader) zones.now o status
 CheckEnds a i o (check.Isolation policy caller) status = IsUnread i × EndsCheck (Isolation caller) (a.file policy.now) ⊤ (a.unreadable policy.now) o status
 CheckEnds a i o (check.Rights policy name) status = IsUnread i × EndsCheck (Rights name) (a.file policy.now) ⊤ (a.unreadable policy.now) o status
 CheckEnds a i o (check.Zone origin rules) status = EndsCheck (Zone origin rules) i.left (i.after ≡ i.before) (i.before < i.after) o status
@@ -227,7 +227,7 @@ StoreJobEnds a p s i o t (store_job.Blame w) left status =
     × Ends (λ outcome. BlamePrinted s w.zone.store.now w.zone.origin.now (option_map (λ n. n.now) w.name) left o.old o.new outcome o.before o.after) status
 StoreJobEnds a p s i o t (store_job.Undo w) left status =
     IsIdle t × IsUnread i
-    × Ends (λ outcome. UndoPrinted s w.zone.store.now w.zone.origin.now (record { first = w.first; last = w.last }) left o.old o.new outcome o.before o.after) status
+    × Ends (λ outcome. UndoPrinted s w.zone.store.now w.zone.origin.now w.first w.last left o.old o.new outcome o.before o.after) status
 StoreJobEnds a p s i o t (store_job.Migrate w) left status =
     IsIdle t × IsUnread i
     × Ends (λ outcome. MigrationWritten o.old o.new outcome o.before o.after × StoreMigrated s w.store.now left o.old o.new outcome o.before o.after) status

@@ -17,7 +17,7 @@ use Rattle.cli_core.specs.declared.line_fault.LineFault.{LineFault}
 use Rattle.cli_core.specs.declared.line_fault.LineFault.TheVariants.{NoMemory}
 use Rattle.cli_core.specs.declared.line_fault.JobFault.{JobFault}
 use Rattle.cli_core.specs.LineFaults.{◌>>=◌, of_names, of_store, Gives}
-use Rattle.cli_text.specs.Plan.{caller_in}
+use Rattle.cli_text.specs.Rights.{caller_if}
 use Rattle.cli_text.specs.Check.{name_if}
 use Rattle.cli_store.specs.declared.log_choice.LogAsked.{LogAsked}
 use Rattle.cli_store.specs.declared.store_log.ZoneLog.{ZoneLog}
@@ -26,11 +26,6 @@ use Rattle.cli_store.specs.Reports.{IsReported}
 use Rattle.cli_store.specs.Stores.{StoresOf, IsGot}
 
 -- ---- what the words ask for
-
--- the caller that a word is, if one is given
-abbrev pub caller_if : Option (List ℕ) → Result (Option (List ℕ)) Refusal
-caller_if None = Ok None
-caller_if (Some word) = caller_in word >>= λ caller. Ok (Some caller)
 
 -- the origin, the number, the name and the caller
 abbrev pub log_asked : List ℕ → LogChoice → Result LogAsked Refusal

@@ -1,7 +1,7 @@
 -- What is printed of the history of a zone of a store: the zone as it was after one of its changes, the items that undo changes, and the
 -- change that brought each record.
 use Rattle.std.specs.Prelude.{◌≡◌, ◌⊎◌, ℕ, ◌-◌, List, [], ◌∷◌, ◌++◌, Bool, ◌||◌, ◌==◌, nat_le, nat_lt, if◌then◌else◌, Option, Some, None, unwrap_or, length, drop, map, decimal, Result, Ok, Err}
-use Rattle.std.specs.List.{flat_map, zip}
+use Rattle.std.specs.List.{flat_map}
 use Rattle.sqlite.specs.State.{State as Shown, HasCleanDisk}
 use Rattle.dns_names.specs.Labels.{is_within}
 use Rattle.dns_names.specs.Reading.{absolute_name}
@@ -29,7 +29,6 @@ use Rattle.cli_text.specs.Canon.{zone_text_in}
 use Rattle.cli_text.specs.Check.{name_if}
 use Rattle.cli_text.specs.Diff.{items_between}
 use Rattle.cli_store.specs.declared.zone_blame.BlameAsked.{BlameAsked}
-use Rattle.cli_store.specs.declared.zone_undo.Undone.{Undone}
 use Rattle.cli_store.specs.declared.zone_history.ZoneHistory.{ZoneHistory}
 use Rattle.cli_store.specs.Export.{ExportWritten, ZoneExported}
 use Rattle.cli_store.specs.Log.{passes}
@@ -38,6 +37,7 @@ use Rattle.cli_store.specs.Stores.{StoresOf, IsGot}
 
 -- ---- what a store has
 
+-- the zone of an origin and its changes, as a state has them; or that there is no such zone, or a failure of the store
 abbrev pub HasHistory : State → List (List ℕ) → Result Held StoreFault → Type 0
 HasHistory s origin (Ok held) = s.zones origin ≡ Some held
 HasHistory s origin (Err fault) = ((fault ≡ NoZone) × (s.zones origin ≡ None)) ⊎ IsFailure fault
@@ -82,9 +82,9 @@ undo_between first last origin held =
     else (zone_after origin last held >>= λ old. zone_after origin (first - 1) held >>= λ new. Ok (items_between (Guarded Sets) old new))
 
 -- The first change to undo is the last one of the zone, and the last change to undo the first, where none is given.
-abbrev pub undo_text : Undone → List (List ℕ) → Held → Result (List ℕ) Refusal
-undo_text undone origin held =
-    let first = unwrap_or undone.first (length held.changes) in undo_between first (unwrap_or undone.last first) origin held
+abbrev pub undo_text : Option ℕ → Option ℕ → List (List ℕ) → Held → Result (List ℕ) Refusal
+undo_text first last origin held =
+    let from = unwrap_or first (length held.changes) in undo_between from (unwrap_or last from) origin held
 
 -- ---- the change that brought a record
 
@@ -93,14 +93,14 @@ abbrev pub blame_asked : List ℕ → Option (List ℕ) → Result BlameAsked Re
 blame_asked word name = of_names (absolute_name word) >>= λ origin. name_if name >>= λ top. Ok (record { origin = origin; name = top })
 
 -- a record after the number of the change that brought it, and after 0 where none did, if it is within the name that is given
-abbrev pub blame_line : Option (List (List ℕ)) → Record × Option ℕ → List ℕ
-blame_line name found =
-    if passes (λ top. is_within found.0.owner top) name then decimal (unwrap_or found.1 0) ++ (32 ∷ (record_line found.0 ++ 10 ∷ [])) else []
+abbrev pub blame_line : Option (List (List ℕ)) → Record → Option ℕ → List ℕ
+blame_line name r change =
+    if passes (λ top. is_within r.owner top) name then decimal (unwrap_or change 0) ++ (32 ∷ (record_line r ++ 10 ∷ [])) else []
 
 -- the records of a zone, in record order
 abbrev pub blame_text : BlameAsked → Held → List ℕ
 blame_text asked held =
-    flat_map (blame_line asked.name) (zip (listing held.records) (map (λ r. bringer held.changes (key_of r)) (listing held.records)))
+    flat_map (λ r. blame_line asked.name r (bringer held.changes (key_of r))) (listing held.records)
 
 -- ---- the jobs
 
@@ -138,10 +138,10 @@ ExportEnds s path word (Some number) form conn old new result writes writes_afte
     PastExported s path word number form conn old new result writes writes_after
 
 -- of `undo`
-abbrev pub UndoPrinted : {C : Type 0} → StoresOf C → List ℕ → List ℕ → Undone → Option C → Option (List ℕ) → Option (List ℕ) → Result (Unit {0}) JobFault → ℕ → ℕ → Type 0
-UndoPrinted s path word undone conn old new result writes writes_after =
+abbrev pub UndoPrinted : {C : Type 0} → StoresOf C → List ℕ → List ℕ → Option ℕ → Option ℕ → Option C → Option (List ℕ) → Option (List ℕ) → Result (Unit {0}) JobFault → ℕ → ℕ → Type 0
+UndoPrinted s path word first last conn old new result writes writes_after =
     (made : Result (List ℕ) LineFault)
-    × IsToldOf s.shows (of_names (absolute_name word)) (λ origin. origin) (undo_text undone) (s.finds path) (s.refuses path) (s.connects path) conn made
+    × IsToldOf s.shows (of_names (absolute_name word)) (λ origin. origin) (undo_text first last) (s.finds path) (s.refuses path) (s.connects path) conn made
     × IsReported made old new result writes writes_after
 
 -- of `blame`

@@ -48,5 +48,5 @@ pub use streams::{Streams, run_words};
 pub use surroundings::Surroundings;
 pub use zone_blame::{BlameAsked, blame};
 pub use zone_history::ZoneHistory;
-pub use zone_undo::{Undone, undo};
+pub use zone_undo::undo;
 pub use zones::{export, import};

@@ -15,7 +15,7 @@ use crate::store_list::list_zones;
 use crate::store_log::log;
 use crate::surroundings::{Ended, NamedFile, Surroundings};
 use crate::zone_blame::blame;
-use crate::zone_undo::{Undone, undo};
+use crate::zone_undo::undo;
 use crate::zones::import;
 use cli_core::{
     Answer, Check, DiffForm, Input, Job, JobFault, NO_MEMORY_LINE, RequestForm, StoreJob, TextJob,
@@ -247,7 +247,7 @@ fn check_job<M: Surroundings, R: Source, W: Sink>(
             policy,
             against: Some(against),
         } => changes(around, against, policy, output),
-        Check::Scopes {
+        Check::PolicyZones {
             policy,
             zones,
             reader,
@@ -498,13 +498,7 @@ fn done<M: Surroundings, S: Alter + Drop, P: StoreFiles<S> + Drop, R: Source, W:
         StoreJob::Zones(words) => list_zones(alloc, files, words.store, output),
         StoreJob::Log(words) => log(alloc, files, words.zone, words.choice, output),
         StoreJob::Blame(words) => blame(alloc, files, words.zone, words.name, output),
-        StoreJob::Undo(words) => {
-            let undone = Undone {
-                first: words.first,
-                last: words.last,
-            };
-            undo(alloc, files, words.zone, undone, output)
-        }
+        StoreJob::Undo(words) => undo(alloc, files, words, output),
         StoreJob::Migrate(words) => migrate(alloc, files, words.store, output),
         StoreJob::Serve(service) => serve(around, files, service, output, trace),
     }

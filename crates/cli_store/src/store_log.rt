@@ -5,7 +5,7 @@ ghost use Rattle.std.specs.Result.{result_map_both};
 ghost use Rattle.sqlite.specs.Held.{state};
 ghost use Rattle.cli_core.specs.LineFaults.{Gives};
 ghost use Rattle.cli_store.specs.Stores.{stores_of};
-ghost use Rattle.cli_store.specs.StoreLog.{caller_if, log_asked, log_in, IsLogRead, IsTextOf, LogPrinted};
+ghost use Rattle.cli_store.specs.StoreLog.{log_asked, log_in, IsLogRead, IsTextOf, LogPrinted};
 
 use crate::files::StoreFiles;
 use crate::log_choice::LogAsked;
@@ -14,10 +14,9 @@ use crate::table_job::{TableJob, asked_by};
 use crate::zone_log::log_text;
 use crate::zones::report;
 use cli_core::{JobFault, LineFault, LogChoice, StoredZone, write_refusal};
-use cli_text::{name_if, read_caller, read_name};
+use cli_text::{caller_if, name_if, read_name};
 use dns_master::Sink;
 use dns_names::Name;
-use grant_policy::Identifier;
 use office_store::{SqlTable, StoreFault};
 use sqlite::{Alter, Connection};
 use std::alloc::Global;
@@ -31,16 +30,6 @@ use zone_core::Change;
 pub struct ZoneLog {
     pub changes: Vec<Change>,
     pub kept: Vec<KeptReceipt>,
-}
-
-/// The caller that a word is, if one is given.
-fn caller_if(alloc: Global, word: Option<&str>) -> Result<Option<Identifier>, LineFault>
-    ensures { Gives (λ caller. caller) result (caller_if (option_map (λ w. w.now) word.entry)) }
-{
-    match word {
-        None => Ok(None),
-        Some(word) => Ok(Some(read_caller(alloc, word)?)),
-    }
 }
 
 /// What the words of a log ask for. The first refusal is that of the origin, of the name, or of the caller.

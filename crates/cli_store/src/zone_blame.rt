@@ -81,7 +81,7 @@ fn blamed_text(
     found: &[Option<u64>],
 ) -> Result<String, AllocError>
     requires { length found.now ≡ length records.now }
-    ensures { IfOk result (λ text. string_bytes text ≡ flat_map (blame_line name.now) (zip records.now found.now)) }
+    ensures { IfOk result (λ text. string_bytes text ≡ flat_map (λ p. blame_line name.now p.0 p.1) (zip records.now found.now)) }
 {
     let mut text = String::new(alloc);
     for i in 0..records.len() {
@@ -92,6 +92,7 @@ fn blamed_text(
 
 /// The records of a zone that are asked for, each after the number of the change that brought it, and after 0 where it was there from
 /// the first on. The only error is out of memory.
+#[tactic(auto, using(crate::proofs::BlameLemmas::zip_with))]
 fn blame_text(
     alloc: Global,
     asked: &BlameAsked,

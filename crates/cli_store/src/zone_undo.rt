@@ -12,7 +12,7 @@ use crate::store_file::StorePath;
 use crate::table_job::asked_by;
 use crate::zone_history::{HistoryOf, ZoneHistory};
 use crate::zones::report;
-use cli_core::{DiffForm, GuardScope, JobFault, LineFault, Refusal, StoredZone, write_refusal};
+use cli_core::{DiffForm, GuardScope, JobFault, LineFault, Refusal, Undo, write_refusal};
 use cli_text::{items_between, read_name};
 use dns_master::Sink;
 use dns_names::Name;
@@ -41,26 +41,17 @@ fn undo_between(
     Ok(items_between(alloc, form, &old, &new)?)
 }
 
-/// Which changes are to be undone: from the first to the last, by their numbers.
-#[derive(Clone, Copy)]
-pub struct Undone {
-    /// The first of them, and the last one of the zone where none is given.
-    pub first: Option<u64>,
-    /// The last of them, and the first where none is given.
-    pub last: Option<u64>,
-}
-
-/// The items that undo changes of the zone of an origin.
+/// The items that undo the changes that words ask for, of the zone of an origin.
 fn undo_text(
     alloc: Global,
     origin: &Name,
     history: &ZoneHistory,
-    undone: Undone,
+    words: Undo<'_>,
 ) -> Result<String, LineFault>
-    ensures { Gives string_bytes result (undo_text undone origin.now (history_in history.now)) }
+    ensures { Gives string_bytes result (undo_text words.entry.first words.entry.last origin.now (history_in history.now)) }
 {
-    let first = undone.first.unwrap_or(history.changes.len() as u64);
-    let last = undone.last.unwrap_or(first);
+    let first = words.first.unwrap_or(history.changes.len() as u64);
+    let last = words.last.unwrap_or(first);
     undo_between(alloc, origin, history, first, last)
 }
 
@@ -68,14 +59,14 @@ fn undo_text(
 fn text_of(
     alloc: Global,
     origin: &Name,
-    undone: Undone,
+    words: Undo<'_>,
     read: Result<ZoneHistory, StoreFault>,
 ) -> Result<String, LineFault>
-    ensures { IsOfHistory (undo_text undone origin.now) (result_map_both history_in (λ fault. fault) read)
+    ensures { IsOfHistory (undo_text words.entry.first words.entry.last origin.now) (result_map_both history_in (λ fault. fault) read)
         (result_map_both (λ text. string_bytes text) (λ fault. fault) result) }
 {
     let history = read?;
-    undo_text(alloc, origin, &history, undone)
+    undo_text(alloc, origin, &history, words)
 }
 
 /// Prints the items that undo changes of a zone of the store of a path: prerequisites that the record sets that they changed are as the
@@ -84,18 +75,17 @@ fn text_of(
 pub fn undo<W: Sink, S: Alter + Drop, P: StoreFiles<S> + Drop>(
     alloc: Global,
     files: P,
-    stored: StoredZone<'_>,
-    undone: Undone,
+    words: Undo<'_>,
     writer: &mut W,
 ) -> (Option<Connection<S>>, Result<(), JobFault>)
     ensures { UndoPrinted
         (stores_of (state S.Store) (P.finds files) (P.refuses files)
-        (P.connects files)) stored.entry.store.now stored.entry.origin.now undone result.0 (W.contents writer.old)
+        (P.connects files)) words.entry.zone.store.now words.entry.zone.origin.now words.entry.first words.entry.last result.0 (W.contents writer.old)
         (W.contents writer.new) result.1 (W.failures writer.old) (W.failures writer.new) }
 {
-    match read_name(alloc, stored.origin) {
+    match read_name(alloc, words.zone.origin) {
         Ok(origin) => {
-            let (path, blank) = (StorePath(stored.store), Blank::new(1));
+            let (path, blank) = (StorePath(words.zone.store), Blank::new(1));
             let (conn, read) = asked_by::<S, Brand, P, _, _>(
                 alloc,
                 files,
@@ -103,7 +93,7 @@ pub fn undo<W: Sink, S: Alter + Drop, P: StoreFiles<S> + Drop>(
                 &HistoryOf(&origin),
                 blank,
             );
-            let text = text_of(alloc, &origin, undone, read);
+            let text = text_of(alloc, &origin, words, read);
             (conn, report(alloc, writer, text))
         }
         Err(fault) => (None, Err(write_refusal(alloc, writer, fault))),

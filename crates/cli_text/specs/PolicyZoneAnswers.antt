@@ -8,7 +8,7 @@ use Rattle.cli_text.specs.declared.policy_zones_fault.PolicyZonesFault.{PolicyZo
 use Rattle.cli_text.specs.declared.policy_zones_fault.PolicyZonesFault.TheVariants as fault
 use Rattle.cli_text.specs.PolicyChanges.{policy_read}
 use Rattle.cli_text.specs.PolicyChangeAnswers.{policy_text}
-use Rattle.cli_text.specs.PolicyZones.{reader_if}
+use Rattle.cli_text.specs.Rights.{caller_if}
 use Rattle.cli_text.specs.Check.{Checked}
 use Rattle.cli_core.specs.declared.line_fault.LineFault.{LineFault}
 use Rattle.cli_core.specs.declared.line_fault.JobFault.{JobFault}
@@ -19,13 +19,13 @@ use Rattle.cli_core.specs.Replies.{Answered, IsRefusalWritten}
 -- the word names no caller, or memory ran out, and that is written
 abbrev pub IsWordRefused : Option (List ℕ) → Option (List ℕ) → Option (List ℕ) → JobFault → ℕ → ℕ → Type 0
 IsWordRefused word before after failed writes writes_after =
-    (refused : LineFault) × Gives (λ (reader : Option (List ℕ)). reader) (Err refused) (reader_if word)
+    (refused : LineFault) × Gives (λ (reader : Option (List ℕ)). reader) (Err refused) (caller_if word)
     × IsRefusalWritten before after refused (Err failed) writes writes_after
 
 -- what is reported of the zones, where the word and the policy were read
 abbrev pub AreZonesReported : Option (List ℕ) → InputOf → InputOf → Option (List ℕ) → Option (List ℕ) → Result Findings JobFault → ℕ → ℕ → Type 0
 AreZonesReported word first zones before after result writes writes_after =
-    (reader : Option (Bor (List ℕ))) × (policy : Bor Policy) × (reader_if word ≡ Ok (option_map (λ r. r.now) reader))
+    (reader : Option (Bor (List ℕ))) × (policy : Bor Policy) × (caller_if word ≡ Ok (option_map (λ r. r.now) reader))
     × Makes first.left policy_read (Ok policy.now) × first.fine
     × Checked (Zones policy reader) zones.left before after result zones.fine zones.failed writes writes_after
 
@@ -36,7 +36,7 @@ abbrev pub AreZonesChecked : Option (List ℕ) → InputOf → InputOf → Optio
 AreZonesChecked word first zones before after (Err (fault.Reader failed)) writes writes_after =
     IsWordRefused word before after failed writes writes_after × first.fine × zones.fine
 AreZonesChecked word first zones before after (Err (fault.Policy failed)) writes writes_after =
-    ((reader : Option (List ℕ)) × (reader_if word ≡ Ok reader))
+    ((reader : Option (List ℕ)) × (caller_if word ≡ Ok reader))
     × Answered first.left policy_text before after (Err failed) first.fine first.failed writes writes_after × zones.fine
 AreZonesChecked word first zones before after (Err (fault.Zones failed)) writes writes_after =
     AreZonesReported word first zones before after (Err failed) writes writes_after

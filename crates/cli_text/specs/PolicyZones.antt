@@ -1,25 +1,16 @@
 -- What `check policy --zones` prints: which rules of a policy speak of no name in the zones of a list, of which of the zones no rule speaks,
 -- and what a caller may not list in them.
-use Rattle.std.specs.Prelude.{◌≡◌, ◌⊎◌, ℕ, List, [], ◌∷◌, ◌++◌, codes, Option, Some, None, Result, Ok}
+use Rattle.std.specs.Prelude.{◌≡◌, ◌⊎◌, ℕ, List, [], ◌∷◌, ◌++◌, codes, Option, Some, None}
 use Rattle.std.specs.List.{flat_map}
 use Rattle.dns_names.specs.Spelling.{name_text}
 use Rattle.dns_data.specs.Types.{type_text}
 use Rattle.grant_policy.specs.declared.rule.Rule.{Rule}
-use Rattle.grant_policy.specs.Reading.{identifier_of}
 use Rattle.policy_tools.specs.declared.readers.Hidden.{Hidden}
 use Rattle.policy_tools.specs.Readers.{MayListAll, IsHidden}
 use Rattle.policy_tools.specs.Slices.{Matters, IsSpokenOf, AreKept}
 use Rattle.cli_text.specs.declared.check.Findings.{Findings}
 use Rattle.cli_text.specs.ReportLines.{AreTexts}
 use Rattle.cli_text.specs.ZoneCheck.{told}
-use Rattle.cli_core.specs.declared.refusal.Refusal.{Refusal}
-use Rattle.cli_core.specs.declared.refusal.Refusal.TheVariants.{NoCaller}
-use Rattle.cli_core.specs.LineFaults.{◌>>=◌, or_refused}
-
--- the caller that has to be able to list everything, if a word names one
-abbrev pub reader_if : Option (List ℕ) → Result (Option (List ℕ)) Refusal
-reader_if None = Ok None
-reader_if (Some word) = or_refused (identifier_of word) NoCaller >>= λ reader. Ok (Some reader)
 
 -- ---- lines
 

@@ -1,5 +1,5 @@
 -- What `rights` prints: the decision of a policy on what words ask.
-use Rattle.std.specs.Prelude.{ℕ, List, [], ◌∷◌, ◌++◌, codes, Result, Ok}
+use Rattle.std.specs.Prelude.{ℕ, List, [], ◌∷◌, ◌++◌, codes, Option, Some, None, Result, Ok}
 use Rattle.dns_names.specs.Reading.{absolute_name}
 use Rattle.grant_policy.specs.Words.{action_of}
 use Rattle.grant_policy.specs.Rules.{Question}
@@ -11,6 +11,11 @@ use Rattle.cli_core.specs.declared.refusal.Refusal.TheVariants.{NoCaller, TypeNo
 use Rattle.cli_core.specs.declared.job.QuestionWords.{QuestionWords}
 use Rattle.cli_text.specs.declared.rights.QuestionRead.{QuestionRead}
 use Rattle.cli_core.specs.LineFaults.{◌>>=◌, or_refused, limited, of_names, of_policies}
+
+-- the caller that a word is, if one is given
+abbrev pub caller_if : Option (List ℕ) → Result (Option (List ℕ)) Refusal
+caller_if None = Ok None
+caller_if (Some word) = or_refused (identifier_of word) NoCaller >>= λ caller. Ok (Some caller)
 
 -- what words ask, or the refusal of the first that is refused: the caller, the name, the type, the action
 abbrev pub question_of : QuestionWords → Result Question Refusal

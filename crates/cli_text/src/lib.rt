@@ -57,6 +57,6 @@ pub use policy_changes::do_changes;
 pub use policy_zones::do_policy_zones;
 pub use policy_zones_fault::PolicyZonesFault;
 pub use request::Request;
-pub use rights::read_caller;
+pub use rights::caller_if;
 pub use split::Split;
 pub use task::Task;

@@ -1,14 +1,13 @@
 //! The zones of a list, by their origins.
 
-ghost use Rattle.std.specs.Prelude.{◌≡◌, ◌++◌, ◌∷◌, [], ℕ, List, IfOk, OnOk, map, option_map};
-ghost use Rattle.policy_tools.specs.ExpectationLines.{is_blank, lines_of};
-ghost use Rattle.policy_tools.specs.ExpectationReading.{is_comment};
+ghost use Rattle.std.specs.Prelude.{◌≡◌, ◌++◌, ◌∷◌, [], ℕ, List, OnOk, map, option_map};
 ghost use Rattle.cli_core.specs.LineFaults.{Gives};
 ghost use Rattle.cli_text.specs.OriginLists.{first_word, is_passed_over, origin_on, origins_from, origins_of};
 
 use crate::questions::name_on;
 use cli_core::LineFault;
 use dns_names::Name;
+use policy_tools::{is_blank, is_comment, lines_of};
 use std::alloc::{AllocError, Global};
 use std::marker::Model;
 
@@ -36,29 +35,12 @@ impl OriginList {
     }
 }
 
-/// Whether an octet is blank: a space, a tab or a carriage return.
-fn is_blank(octet: u8) -> bool
-    ensures { result ≡ is_blank octet }
-{
-    octet == b' ' || octet == b'\t' || octet == b'\r'
-}
-
 /// The first word of a line: the first part between its blanks that is not empty.
 fn first_word(line: &[u8]) -> Option<&[u8]>
     ensures { option_map (λ word. word.now) result ≡ first_word line.now }
 {
     line.split(|octet| is_blank(*octet))
         .find(|part| !part.is_empty())
-}
-
-/// Whether a word begins a comment.
-fn is_comment(word: &[u8]) -> bool
-    ensures { result ≡ is_comment word.now }
-{
-    match word {
-        [octet, ..] => *octet == b'#' || *octet == b';',
-        [] => false,
-    }
 }
 
 /// Whether a word is no origin: it begins a comment, or is `elsewhere`.
@@ -79,13 +61,6 @@ fn origin_on(alloc: Global, line: usize, word: Option<&[u8]>) -> Result<Option<N
         return Ok(None);
     }
     Ok(Some(name_on(alloc, line, word)?))
-}
-
-/// The lines of a text. The only error is out of memory.
-fn lines_of(alloc: Global, text: &[u8]) -> Result<Vec<&[u8]>, AllocError>
-    ensures { IfOk result (λ lines. map (λ line. line.now) lines.items ≡ lines_of text.now) }
-{
-    text.split(|octet| *octet == b'\n').collect(alloc)
 }
 
 /// Appends an origin. The only error is out of memory.

@@ -2,33 +2,22 @@
 
 ghost use Rattle.std.specs.Prelude.{◌≡◌, ◌++◌, IfOk, OnOk, map, option_map};
 ghost use Rattle.std.specs.List.{flat_map};
-ghost use Rattle.cli_core.specs.LineFaults.{Gives};
 ghost use Rattle.cli_text.specs.ReportLines.{AreTexts};
-ghost use Rattle.cli_text.specs.PolicyZones.{reader_if, stray_line, unspoken_line, hidden_line, IsStrayText, IsUnspokenText, IsHiddenText, AreHiddenTexts, IsZonesReport};
+ghost use Rattle.cli_text.specs.PolicyZones.{stray_line, unspoken_line, hidden_line, IsStrayText, IsUnspokenText, IsHiddenText, AreHiddenTexts, IsZonesReport};
 ghost use Rattle.cli_text.specs.PolicyZoneAnswers.{AreZonesChecked};
 
 use crate::check::{Findings, Report, Subject, do_check};
 use crate::origin_list::OriginList;
 use crate::policy_changes::old_policy;
 use crate::policy_zones_fault::PolicyZonesFault;
-use crate::rights::read_caller;
+use crate::rights::caller_if;
 use crate::zone_check::told;
-use cli_core::{Input, LineFault, write_refusal};
+use cli_core::{Input, write_refusal};
 use dns_master::Sink;
 use dns_names::Name;
 use grant_policy::{Identifier, Policy, Rule};
 use policy_tools::{Hidden, hidden_from, stray_rules, unspoken_origins};
 use std::alloc::{AllocError, Global};
-
-/// The caller that has to be able to list everything, if a word names one.
-fn reader_if(alloc: Global, word: Option<&str>) -> Result<Option<Identifier>, LineFault>
-    ensures { Gives (λ reader. reader) result (reader_if (option_map (λ w. w.now) word.entry)) }
-{
-    match word {
-        None => Ok(None),
-        Some(word) => Ok(Some(read_caller(alloc, word)?)),
-    }
-}
 
 /// Appends the line of a rule that speaks of no name in the zones.
 fn push_stray(rule: &Rule, text: &mut Vec<u8>) -> Result<(), AllocError>
@@ -177,7 +166,7 @@ pub fn do_policy_zones<R: Input, N: Input, W: Sink>(
         (record { left = N.left zones.old; fine = N.fine zones.old zones.new; failed = N.failed zones.old zones.new }) (W.contents writer.old)
         (W.contents writer.new) result (W.failures writer.old) (W.failures writer.new) }
 {
-    let reader = match reader_if(alloc, reader) {
+    let reader = match caller_if(alloc, reader) {
         Ok(reader) => reader,
         Err(fault) => return Err(PolicyZonesFault::Reader(write_refusal(alloc, writer, fault))),
     };

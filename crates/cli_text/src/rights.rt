@@ -1,12 +1,12 @@
 //! Asking a policy.
 
-ghost use Rattle.std.specs.Prelude.{◌≡◌, IfOk};
+ghost use Rattle.std.specs.Prelude.{◌≡◌, IfOk, option_map};
 ghost use Rattle.dns_names.specs.Reading.{absolute_name};
 ghost use Rattle.grant_policy.specs.Decisions.{verdict_of};
 ghost use Rattle.grant_policy.specs.Reading.{identifier_of, type_of};
 ghost use Rattle.grant_policy.specs.Words.{action_of};
 ghost use Rattle.cli_core.specs.LineFaults.{Gives, GivesOf, or_refused};
-ghost use Rattle.cli_text.specs.Rights.{question_in, question_of, verdict_line, decided_by, rights_text};
+ghost use Rattle.cli_text.specs.Rights.{caller_if, question_in, question_of, verdict_line, decided_by, rights_text};
 
 use crate::canon::read_name;
 use crate::task::Task;
@@ -36,6 +36,16 @@ pub fn read_caller(alloc: Global, word: &str) -> Result<Identifier, LineFault>
         Ok(caller) => Ok(caller),
         Err(IdentifierFault::Malformed) => Err(LineFault::Refused(Refusal::NoCaller)),
         Err(IdentifierFault::NoMemory) => Err(LineFault::NoMemory),
+    }
+}
+
+/// The caller that a word is, if one is given.
+pub fn caller_if(alloc: Global, word: Option<&str>) -> Result<Option<Identifier>, LineFault>
+    ensures { Gives (λ caller. caller) result (caller_if (option_map (λ w. w.now) word.entry)) }
+{
+    match word {
+        None => Ok(None),
+        Some(word) => Ok(Some(read_caller(alloc, word)?)),
     }
 }
 

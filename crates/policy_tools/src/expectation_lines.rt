@@ -8,12 +8,13 @@ ghost use Rattle.grant_policy.specs.Words.{action_of};
 ghost use Rattle.policy_tools.specs.declared.expectation_lines.ExpectationLine.{ExpectationLine as RowOf};
 ghost use Rattle.policy_tools.specs.declared.expectation_fault.ExpectationFault.TheVariants.{Form, NoCaller, TypeNotKept, NoAction, NoRule};
 ghost use Rattle.policy_tools.specs.ExpectationFaults.{Reads, ReadsText, or_fault, of_names};
-ghost use Rattle.policy_tools.specs.ExpectationLines.{AreExpectations, is_blank, lines_of, place_word};
-ghost use Rattle.policy_tools.specs.ExpectationReading.{words_of, words_among, is_comment, parts_of, rule_in, decision_in, listable_of, callers_in, is_nobody, listed_in, one_in, place_of, limit_by, limit_of, limit_in, expectation_in, row_of, expectations_from, expectations_of};
+ghost use Rattle.policy_tools.specs.ExpectationLines.{AreExpectations, lines_of, place_word};
+ghost use Rattle.policy_tools.specs.ExpectationReading.{words_of, words_among, parts_of, rule_in, decision_in, listable_of, callers_in, is_nobody, listed_in, one_in, place_of, limit_by, limit_of, limit_in, expectation_in, row_of, expectations_from, expectations_of};
 
 use crate::caller_list::CallerList;
 use crate::expectation::{Expectation, ExpectedDecision, Limit};
 use crate::expectation_fault::{ExpectationFault, ExpectationsFault};
+use crate::line_words::{is_blank, is_comment, lines_of};
 use dns_data::RecordType;
 use dns_names::Name;
 use grant_policy::{Action, Actions, Effect, Identifier, IdentifierFault, Scope, Types};
@@ -27,35 +28,11 @@ pub struct ExpectationLine {
     pub expectation: Expectation,
 }
 
-/// Whether an octet is blank: a space, a tab or a carriage return.
-fn is_blank(octet: u8) -> bool
-    ensures { result ≡ is_blank octet }
-{
-    octet == b' ' || octet == b'\t' || octet == b'\r'
-}
-
 /// The parts of a line, between its blanks. The only error is out of memory.
 fn parts_of(alloc: Global, line: &[u8]) -> Result<Vec<&[u8]>, AllocError>
     ensures { IfOk result (λ parts. map (λ part. part.now) parts.items ≡ parts_of line.now) }
 {
     line.split(|octet| is_blank(*octet)).collect(alloc)
-}
-
-/// The lines of a text. The only error is out of memory.
-fn lines_of(alloc: Global, text: &[u8]) -> Result<Vec<&[u8]>, AllocError>
-    ensures { IfOk result (λ lines. map (λ line. line.now) lines.items ≡ lines_of text.now) }
-{
-    text.split(|octet| *octet == b'\n').collect(alloc)
-}
-
-/// Whether a part begins a comment.
-fn is_comment(part: &[u8]) -> bool
-    ensures { result ≡ is_comment part.now }
-{
-    match part {
-        [octet, ..] => *octet == b'#' || *octet == b';',
-        [] => false,
-    }
 }
 
 /// The words among parts, up to a comment. The only error is out of memory.

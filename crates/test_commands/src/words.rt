@@ -123,7 +123,7 @@ fn push_check(alloc: Global, words: &Check<'_>, answer: &mut Vec<u8>) -> Result<
             push_all(&["check policy (", policy, ")"], answer)?;
             push_if_given(*against, answer)
         }
-        Check::Scopes {
+        Check::PolicyZones {
             policy,
             zones,
             reader,

@@ -26,7 +26,7 @@ pub enum Check<'a> {
         against: Option<&'a str>,
     },
     /// To find the rules of a policy that speak of no zone, and the zones of which no rule speaks.
-    Scopes {
+    PolicyZones {
         /// The path of the policy.
         policy: &'a str,
         /// The path of the list of zones.
@@ -120,7 +120,7 @@ fn policy_in<'a>(matches: &ArgMatches<'a>) -> Option<Check<'a>>
         text_at(matches, Argument::Reader),
     ) {
         (against, None, None) => Some(Check::Policy { policy, against }),
-        (None, Some(zones), reader) => Some(Check::Scopes {
+        (None, Some(zones), reader) => Some(Check::PolicyZones {
             policy,
             zones,
             reader,

@@ -5,4 +5,4 @@ use Rattle.cli_store.specs.ZoneHistory.{blame_line}
 use Rattle.cli_store.proofs.zone_blame.blamed_text.Given as goal
 
 abbrev pub invariant-loop-i : goal.invariant-loop-i
-invariant-loop-i l = string_bytes l.text ≡ flat_map (blame_line l.name) (take l.i (zip l.records l.found))
+invariant-loop-i l = string_bytes l.text ≡ flat_map (λ p. blame_line l.name p.0 p.1) (take l.i (zip l.records l.found))
