@@ -56,6 +56,7 @@ pub use plan_fault::PlanFault;
 pub use policy_changes::do_changes;
 pub use policy_zones::do_policy_zones;
 pub use policy_zones_fault::PolicyZonesFault;
+pub use questions::name_on;
 pub use request::Request;
 pub use rights::caller_if;
 pub use split::Split;

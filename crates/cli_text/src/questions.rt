@@ -60,8 +60,8 @@ fn unquoted<'a>(line: usize, fault: WordFault, item: Item<'a>) -> Result<&'a [u8
     Ok(item.raw)
 }
 
-/// The absolute name that a word of a line is.
-pub(crate) fn name_on(alloc: Global, line: usize, raw: &[u8]) -> Result<Name, LineFault>
+/// The absolute name that a word of a line is, which is counted from 1; or the refusal of that line.
+pub fn name_on(alloc: Global, line: usize, raw: &[u8]) -> Result<Name, LineFault>
     ensures { Gives (λ name. name) result (name_on line (absolute_name raw.now)) }
 {
     match Name::read_absolute(alloc, raw) {
