@@ -137,7 +137,16 @@ abbrev pub stored : StoredZone → List Given → List Given
 stored zone gs = (argument.Store, given zone.store.now) ∷ (argument.Origin, given zone.origin.now) ∷ gs
 
 abbrev pub asks_store : StoreJob → JobOf
-asks_store (store_job.Import w) = (command.Import, stored w.zone ((argument.Replace, flag (is_replaced w.existing)) ∷ []))
+asks_store (store_job.Import w) = (
+  command.Import,
+  (argument.Store, given w.zone.store.now) ∷ (argument.ImportedOrigin, given w.zone.origin.now) ∷ (argument.List, text None)
+      ∷ (argument.Replace, flag (is_replaced w.existing)) ∷ [],
+)
+asks_store (store_job.ImportList w) = (
+  command.Import,
+  (argument.Store, given w.store.now) ∷ (argument.ImportedOrigin, text None) ∷ (argument.List, given w.list.now)
+      ∷ (argument.Replace, flag (is_replaced w.existing)) ∷ [],
+)
 asks_store (store_job.Export w) = (command.Export, stored w.zone ((argument.At, number w.at) ∷ (argument.Relative, flag (is_relative w.form)) ∷ []))
 asks_store (store_job.Zones w) = (command.Zones, (argument.Store, given w.store.now) ∷ [])
 asks_store (store_job.Log w) = (

@@ -42,6 +42,7 @@ word_number of_word.Action = 54
 word_number of_word.Rule = 54
 word_number of_word.Question = 54
 word_number of_word.Expectation = 54
+word_number of_word.ZoneFile = 54
 
 abbrev pub refusal_number : Refusal → ℕ
 refusal_number (Name fault) = name_number fault

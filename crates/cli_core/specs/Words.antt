@@ -44,7 +44,7 @@ is_input (text (Some path)) = bytes_eq path (codes "-")
 is_input _ = false
 
 -- whether values go together: one of two files at most is standard input, and prerequisites are of one scope; an update has an identifier,
--- or what stands before those of its parts, and only one of them; standard input is not both a zone and the questions to it, which have
+-- or what stands before those of its parts, and only one of them; an import has an origin, or a list of zones, and only one of them; standard input is not both a zone and the questions to it, which have
 -- their types; a zone is not checked both by one rule only and by all but one; and a policy is not checked both against another and beside
 -- zones, and a reader is given with zones only
 abbrev pub go_together : Command → List Given → Bool
@@ -56,6 +56,8 @@ go_together command.Answer gs =
     && not (is_input (value_of argument.AskedName gs) && is_given (value_of argument.AskedType gs))
 go_together command.Request gs =
     if is_given (value_of argument.Id gs) then not (is_given (value_of argument.Split gs)) else is_given (value_of argument.Split gs)
+go_together command.Import gs =
+    if is_given (value_of argument.ImportedOrigin gs) then not (is_given (value_of argument.List gs)) else is_given (value_of argument.List gs)
 go_together command.Check gs =
     not (is_given (value_of argument.Only gs) && is_given (value_of argument.Not gs))
     && (if is_given (value_of argument.Zones gs) then not (is_given (value_of argument.Against gs)) else not (is_given (value_of argument.Reader gs)))

@@ -18,6 +18,8 @@ pub enum Argument {
     Type,
     Action,
     Listen,
+    ImportedOrigin,
+    List,
     Replace,
     At,
     Changed,
@@ -131,6 +133,16 @@ impl Argument {
                 name: "listen",
                 form: Form::Needed,
                 help: "The address and port to listen at",
+            },
+            Argument::ImportedOrigin => &Row {
+                name: "origin",
+                form: Form::Optional,
+                help: "The zone's origin, an absolute name; this or --list is needed",
+            },
+            Argument::List => &Row {
+                name: "list",
+                form: Form::Optional,
+                help: "The path of a list of zones, or - for standard input: a line ORIGIN FILE for each",
             },
             Argument::Replace => &Row {
                 name: "replace",

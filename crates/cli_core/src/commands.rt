@@ -36,7 +36,7 @@ use clap::ArgMatches;
 pub use diff::Diff;
 pub use explain::Explain;
 pub use export::Export;
-pub use import::Import;
+pub use import::{Import, ImportList};
 pub use log::Log;
 pub use migrate::Migrate;
 pub use plan::Plan;

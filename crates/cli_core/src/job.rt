@@ -1,8 +1,8 @@
 //! What the program is to do.
 
 use crate::commands::{
-    Answer, Blame, Canon, Check, Diff, Explain, Export, Import, Log, Migrate, Plan, Request,
-    Reverse, Rights, Service, Undo, Zones,
+    Answer, Blame, Canon, Check, Diff, Explain, Export, Import, ImportList, Log, Migrate, Plan,
+    Request, Reverse, Rights, Service, Undo, Zones,
 };
 
 /// What the program is to do.
@@ -44,6 +44,8 @@ pub enum TextJob<'a> {
 pub enum StoreJob<'a> {
     /// To put a zone that is read from standard input into a store.
     Import(Import<'a>),
+    /// To put the zones of a list into a store, one after the other.
+    ImportList(ImportList<'a>),
     /// To print a zone of a store.
     Export(Export<'a>),
     /// To print the zones of a store.

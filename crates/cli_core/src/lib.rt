@@ -17,8 +17,8 @@ mod word_fault;
 mod words;
 
 pub use commands::{
-    Answer, Blame, Canon, Check, Diff, Explain, Export, Import, Log, Migrate, Plan, Request,
-    Reverse, Rights, Service, Undo, Zones,
+    Answer, Blame, Canon, Check, Diff, Explain, Export, Import, ImportList, Log, Migrate, Plan,
+    Request, Reverse, Rights, Service, Undo, Zones,
 };
 pub use device::{ended, write_answer, write_refusal, write_text};
 pub use input::{Input, read_input};

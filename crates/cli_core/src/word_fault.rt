@@ -25,6 +25,8 @@ pub enum WordFault {
     Question,
     /// The words are no expectation.
     Expectation,
+    /// The words are not an origin and a file.
+    ZoneFile,
 }
 
 impl WordFault {
@@ -39,7 +41,8 @@ impl WordFault {
             | WordFault::Action
             | WordFault::Rule
             | WordFault::Question
-            | WordFault::Expectation => 54,
+            | WordFault::Expectation
+            | WordFault::ZoneFile => 54,
         }
     }
 }
@@ -63,6 +66,9 @@ impl Display for WordFault {
             WordFault::Expectation => f.write_str(
                 "the line is neither granted or denied CALLER NAME TYPE ACTION [by RULE] nor only CALLER.. may ACTION TYPE at, within or below NAME",
             ),
+            WordFault::ZoneFile => {
+                f.write_str("a zone of a list is ORIGIN FILE, and a file is named in UTF-8")
+            }
         }
     }
 }

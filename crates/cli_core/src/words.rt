@@ -64,6 +64,7 @@ fn mistake_in(matches: &ArgMatches<'_>) -> &'static str {
             "only one of FILE and NAME can be -, which is standard input; questions there have their types",
         Some(("check", _)) =>
             "a policy is checked --against another or beside --zones, a --reader only beside these; a zone by --only one rule or by all but one --not",
+        Some(("import", _)) => "one of --origin and --list is needed, and only one of them",
         Some(("request", _)) => "one of --id and --split is needed, and only one of them",
         _ => "the words name no job: see the example of zoneoffice COMMAND --help",
     }
@@ -122,7 +123,7 @@ fn reported(alloc: Global, words: &[&str], error: Error) -> WordsFault
 
 /// The job that the words after the program's name ask for: none or `apply`; `canon --origin NAME [--relative]`;
 /// `diff --origin NAME [--guard | --guard-sets] OLD NEW`, where only one of the two can be `-`; `request (--id ID | --split ID)`;
-/// `import --store PATH --origin NAME [--replace]`; `export --store PATH --origin NAME [--at N] [--relative]`; `zones --store PATH`;
+/// `import --store PATH (--origin NAME | --list LIST) [--replace]`; `export --store PATH --origin NAME [--at N] [--relative]`; `zones --store PATH`;
 /// `log --store PATH --origin NAME [--from N] [--name NAME] [--caller CALLER]`; `blame --store PATH --origin NAME [--name NAME]`;
 /// `undo --store PATH --origin NAME [--change N] [--to N]`; `migrate --store PATH`;
 /// `rights --policy PATH --caller CALLER NAME TYPE ACTION`; `plan --policy PATH --caller CALLER`;

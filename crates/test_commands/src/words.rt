@@ -162,6 +162,10 @@ fn push_store_job(
             existing_text(words.existing),
             answer,
         ),
+        StoreJob::ImportList(words) => {
+            push_given("import", words.store, "", answer)?;
+            push_given(" list", words.list, existing_text(words.existing), answer)
+        }
         StoreJob::Export(words) => {
             push_zone("export", &words.zone, form_text(words.form), answer)?;
             push_number(alloc, " at ", words.at, answer)
