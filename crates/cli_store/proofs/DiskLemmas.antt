@@ -28,6 +28,7 @@ use Rattle.office_store.proofs.QueryLemmas.{settled_of}
 use Rattle.office_store.proofs.VersionLemmas.{one_version}
 use Rattle.cli_core.specs.declared.job.Existing.{Existing}
 use Rattle.cli_core.specs.declared.job.Existing.TheVariants.{Kept, Replaced}
+use Rattle.cli_store.specs.ImportList.{Stays}
 use Rattle.cli_store.specs.Puts.{put_into, with_put}
 use Rattle.cli_store.specs.Stores.{IsAdopted, IsNoStore, IsMade, IsUnmade, IsMigratedTo, IsUnmigrated, IsPut}
 use Rattle.cli_store.specs.Starts.{IsBare, IsOldStateIn, HasState, held, none, old, Finds}
@@ -167,6 +168,10 @@ asked_still now after s next asked left clean may = held (leaves_one after s nex
 
 pub left_still : (now : Shown) (s : State) (next : Trees) → LeavesStates now s s → HasCleanDisk now → now.may_leave next → HasState next s
 left_still now s next left clean may = held (leaves_one now s next left clean may)
+
+-- that stays
+pub stays_still : (now after : Shown) (s : State) (next : Trees) → Stays now after → LeavesStates now s s → HasCleanDisk after → after.may_leave next → HasState next s
+stays_still now after s next stays left clean may = held (leaves_one after s next (stays.crash s s left) clean may)
 
 -- into which a zone is put
 pub put_made : (existing : Existing) (zone : ZoneOf) (now after : Shown) (s : State) (next : Trees) (done : Unit {0}) → IsPut existing zone now after (Ok done) → HoldsState now s → HasCleanDisk after

@@ -1,3 +1,5 @@
+pub mod ZoneFileLemmas
+pub mod ListPutLemmas
 pub mod StoreLemmas
 pub mod FilesLemmas
 pub mod LogLemmas
@@ -11,6 +13,7 @@ pub mod HistoryLemmas
 pub mod BlameLemmas
 pub mod StreamLemmas
 pub mod ServedLemmas
+pub mod ProgramLemmas
 pub mod DeedLemmas
 pub mod DiskLemmas
 pub mod StartLemmas

@@ -21,7 +21,9 @@ use Rattle.office_wire.proofs.LifetimeLemmas.{histories_are_one}
 use Rattle.cli_core.specs.LineFaults.{Makes, of_names, of_store}
 use Rattle.cli_core.specs.declared.job.ZoneForm.{ZoneForm}
 use Rattle.cli_core.specs.declared.refusal.Refusal.{Refusal}
+use Rattle.cli_core.specs.declared.commands.import.ImportList.{ImportList}
 use Rattle.cli_core.specs.declared.commands.serve.Service.{Service}
+use Rattle.cli_core.specs.Inputs.{InputOf}
 use Rattle.cli_core.specs.declared.job.Existing.{Existing}
 use Rattle.cli_core.specs.declared.job.Existing.TheVariants.{Kept as Beside, Replaced}
 use Rattle.cli_core.specs.declared.job.LogChoice.{LogChoice}
@@ -35,8 +37,10 @@ use Rattle.cli_core.specs.declared.words.WordsFault.{WordsFault}
 use Rattle.wire_tcp.specs.Connections.{Visit, Moment, joined, standing_at, AreServed, AreServedFrom}
 use Rattle.cli_store.specs.Export.{IsExported, ZoneExported}
 use Rattle.cli_store.specs.Import.{IsImported, ZoneStored}
+use Rattle.cli_store.specs.ImportList.{Passed, stayed, came, IsNotPassed, ArePut, ListImported, TakesAll, states_passed}
+use Rattle.cli_store.specs.ZoneFiles.{ZoneFileOf, zone_files_read}
 use Rattle.cli_store.specs.Migrate.{StoreMigrated}
-use Rattle.cli_store.specs.Program.{StoreJobEnds, JobEnds, WordsEnd, status_of}
+use Rattle.cli_store.specs.Program.{StoreJobEnds, JobEnds, WordsEnd, named, standard, status_of}
 use Rattle.cli_store.specs.Puts.{put_into, with_put}
 use Rattle.cli_store.specs.Reports.{IsReported}
 use Rattle.wire_tcp.specs.Limits.{Limits}
@@ -45,9 +49,10 @@ use Rattle.cli_store.specs.StoreList.{IsListRead, ZonesPrinted}
 use Rattle.cli_store.specs.StoreLog.{IsLogged, IsLogRead, LogPrinted}
 use Rattle.cli_store.specs.ZoneHistory.{blame_asked, blame_text, past_text, undo_text, BlamePrinted, ExportEnds, IsHistoryRead, IsToldOf, UndoPrinted}
 use Rattle.cli_store.specs.Stores.{StoresOf, IsRead, IsPut, IsUnopened, IsReached, IsUnreached, IsStored, IsGot, IsMigratedStore, stores_of}
-use Rattle.cli_store.specs.Starts.{HasState, held, Deed, put, state_after_deeds, called_by, Setting, Start, IsStart, MayFollow, AreStarts, Course, deeds_of, IsNothing, IsZoneMade, IsZoneInHand, IsZoneRefused, IsUnserved, moment_of, IsServed, JobMakes, IsCourse, AreCourses, history, StartsHaveOneHistory}
+use Rattle.cli_store.specs.Starts.{HasState, held, Deed, put, state_after_deeds, called_by, Setting, Start, IsStart, MayFollow, AreStarts, Course, deeds_of, IsNothing, IsZoneMade, IsZoneInHand, IsZoneRefused, deeds_in, AreZonesMade, AreNoneMade, IsUnserved, moment_of, IsServed, JobMakes, IsCourse, AreCourses, history, StartsHaveOneHistory}
 use Rattle.cli_store.proofs.DeedLemmas.{after_more, called_are, called_more}
-use Rattle.cli_store.proofs.DiskLemmas.{Settles, adopted_holds, made_holds, no_store, unmade, migrated, unmigrated, asked_still, left_still, WasPut, put_made, put_refused}
+use Rattle.cli_store.proofs.DiskLemmas.{Settles, adopted_holds, made_holds, no_store, unmade, migrated, unmigrated, asked_still, left_still, stays_still, WasPut, put_made, put_refused}
+use Rattle.cli_store.proofs.ListPutLemmas.{unpassed_honest}
 
 -- ---- a lifetime of a table
 
@@ -74,6 +79,16 @@ one_hand l s m (hand ∷ more ∷ hands) are e = absurd are.2
 -- as deeds
 deeds_lead : (s : State) (rules : List Rule) (xs ys : List Call) → state_after_deeds s (called_by rules xs ++ called_by rules ys) ≡ state_after_all s (ruled rules (xs ++ ys))
 deeds_lead s rules xs ys = ap (state_after_deeds s) (sym (called_more rules xs ys)) ∙ called_are s rules (xs ++ ys)
+
+-- zones that came
+zones_lead : (existing : Existing) (s : State) (done : List Passed) → state_after_deeds s (deeds_in existing done) ≡ states_passed existing s done
+zones_lead existing s [] = refl
+zones_lead existing s (stayed origin ∷ done) = zones_lead existing s done
+zones_lead existing s (came zone ∷ done) = zones_lead existing (with_put existing s zone) done
+
+-- and what was in hand after them
+zones_lead_on : (existing : Existing) (s : State) (done : List Passed) (hand : List Deed) → state_after_deeds s (deeds_in existing done ++ hand) ≡ state_after_deeds (states_passed existing s done) hand
+zones_lead_on existing s done hand = after_more s (deeds_in existing done) hand ∙ ap (λ (t : State). state_after_deeds t hand) (zones_lead existing s done)
 
 -- ---- courses
 
@@ -208,6 +223,71 @@ module _ {A F C H P : Type 0} (w : Setting A F C H P) (law : (conn : C) → Sett
         was.has,
       )
     ]
+
+    -- ---- a list of zones
+
+    -- a zone that was not passed: nothing was put, or the zone in hand
+    not_passed : (existing : Existing) (zone : ZoneFileOf) (mid after : C) (fault : LineFault) (t : State) → IsNotPassed (w.around st.around) existing zone (w.shows mid) (w.shows after) fault
+        → HoldsState (w.shows mid) t × LeavesStates (w.shows mid) t t → HasCleanDisk (w.shows after) → (w.shows after).may_leave next
+        → (hand : List Deed) × ((hand ≡ []) ⊎ IsZoneInHand zone.word existing t ((w.around st.around).file zone.path) fault hand) × HasState next (state_after_deeds t hand)
+    not_passed existing zone mid after fault t (inl (refusal, failed, e, stays)) here sure may_be = ([], inl refl, stays_still (w.shows mid) (w.shows after) t next stays here.1 sure may_be)
+    not_passed existing zone mid after fault t (inr (asked, inl (given, stays))) here sure may_be = ([], inl refl, stays_still (w.shows mid) (w.shows after) t next stays here.1 sure may_be)
+    not_passed existing zone mid after fault t (inr (asked, inr (it, read, refusal, fault_is, puts))) here sure may_be =
+        elim (put_refused existing it (w.shows mid) (w.shows after) t next refusal puts here sure may_be) [
+          | inl same ↦ ([], inl refl, same)
+          | inr was ↦ (
+            put existing it ∷ [],
+            inr (record { zone = it; read = read; taken = was.taken; refusal = refusal; failed = was.failed; fault_is = fault_is; hand_is = refl }),
+            was.has,
+          )
+        ]
+
+    abbrev Listing : Existing → List ZoneFileOf → Result (Unit {0}) JobFault → Course → Type 0
+    Listing existing zones outcome c = AreZonesMade (w.around st.around) existing s zones st.output outcome c
+
+    module _ (existing : Existing) (zones : List ZoneFileOf) (now after : C) (outcome : Result (Unit {0}) JobFault) (puts : ArePut w.shows (w.around st.around) existing zones now after st.output outcome)
+        (sure : HasCleanDisk (w.shows after)) (may_be : (w.shows after).may_leave next) where
+      mid_clean : HasCleanDisk (w.shows puts.mid)
+      mid_clean = elim puts.end [
+        | inl all ↦ subst (λ (c : C). HasCleanDisk (w.shows c)) all.0 sure
+        | inr stop ↦ unpassed_honest (w.around st.around) existing stop.0.zone (w.shows puts.mid) (w.shows after) stop.0.fault stop.1 sure
+      ]
+
+      now_clean : HasCleanDisk (w.shows now)
+      now_clean = puts.turned.honest mid_clean
+
+      all_put : HoldsState (w.shows now) s × LeavesStates (w.shows now) s s → Comes (Listing existing zones outcome) s next
+      all_put here =
+          let t = states_passed existing s puts.done in
+          let made = puts.turned.made mid_clean s here.0 in
+          let left = puts.turned.left mid_clean s here.0 here.1 in
+          elim puts.end [
+            | inl all ↦ (
+              record { told = deeds_in existing puts.done; hand = [] },
+              record { done = puts.done; later = puts.later; passed = puts.passed; taken = made.0; told = refl; end = inl (all.1, refl) },
+              subst (HasState next) (sym (zones_lead_on existing s puts.done []))
+                  (left_still (w.shows puts.mid) t next left mid_clean (subst (λ (c : C). (w.shows c).may_leave next) all.0 may_be)),
+            )
+            | inr stop ↦
+                let last = not_passed existing stop.0.zone puts.mid after stop.0.fault t stop.1 (made.1, left) sure may_be in (
+                  record { told = deeds_in existing puts.done; hand = last.0 },
+                  record { done = puts.done; later = puts.later; passed = puts.passed; taken = made.0; told = refl; end = inr (stop.0, last.1) },
+                  subst (HasState next) (sym (zones_lead_on existing s puts.done last.0)) last.2,
+                )
+          ]
+
+    abbrev Lists : ImportList → InputOf → Result (Unit {0}) JobFault → Course → Type 0
+    Lists words list outcome c = AreNoneMade st.output outcome c ⊎ ((zones : List ZoneFileOf) × Makes list.left zone_files_read (Ok zones) × Listing words.existing zones outcome c)
+
+    listed : (words : ImportList) (list : InputOf) (outcome : Result (Unit {0}) JobFault)
+        → ListImported (w.around st.around) (stores_of w.shows (w.finds st.files) (w.refuses st.files) (w.connects st.files)) words list st.left st.output outcome → Comes (Lists words list outcome) s next
+    listed words list outcome (inl (fault, given, line, none)) = (nothing, inl (is_nothing, (fault, line)), unread none)
+    listed words list outcome (inr (zones, read, fine, inl (refusal, refused, line))) =
+        (nothing, inl (is_nothing, (of_store refusal, line)), unreached words.store.now words.existing refusal refused)
+    listed words list outcome (inr (zones, read, fine, inr (now, reaches, (after, e, puts)))) =
+        let sure = now_clean words.existing zones now after outcome puts (clean after e) (follows after e) in
+        comes_so s next (λ c all. inr (zones, read, all))
+        (all_put words.existing zones now after outcome puts (clean after e) (follows after e) (reached words.store.now words.existing now reaches sure))
 
     -- ---- a service
 
@@ -361,6 +441,10 @@ module _ {A F C H P : Type 0} (w : Setting A F C H P) (law : (conn : C) → Sett
     stored_job (store_job.Import words) status (idle, (outcome, (written, (made, is_made, told)), status_is)) =
         comes_so s next (λ c all. (outcome, all, status_is))
         (imported words.zone.store.now words.zone.origin.now words.existing outcome made (st.input.after ≡ st.input.before) (st.input.before < st.input.after) is_made told)
+    stored_job (store_job.ImportList words) status (idle, inl (apart, unheard, (outcome, ends, status_is))) =
+        comes_so s next (λ c all. inl (apart, unheard, (outcome, all, status_is))) (listed words (named (w.around st.around) words.list.now) outcome ends)
+    stored_job (store_job.ImportList words) status (idle, inr (same, (outcome, ends, status_is))) =
+        comes_so s next (λ c all. inr (same, (outcome, all, status_is))) (listed words (standard st.input) outcome ends)
     stored_job (store_job.Export words) status (idle, unread, (outcome, ends, status_is)) =
         stays s next (exported_by words.zone.store.now words.zone.origin.now words.at words.form st.output.old st.output.new outcome st.output.before st.output.after ends)
     stored_job (store_job.Zones words) status (idle, unread, (outcome, (r, is_got, told), status_is)) =

@@ -3,6 +3,8 @@ pub mod Puts
 pub mod Stores
 pub mod Reports
 pub mod Import
+pub mod ZoneFiles
+pub mod ImportList
 pub mod Export
 pub mod Migrate
 pub mod Log

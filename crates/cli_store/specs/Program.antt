@@ -52,6 +52,7 @@ use Rattle.wire_tcp.specs.Connections.{Writing}
 use Rattle.cli_store.specs.Around.{Around, Callers}
 use Rattle.cli_store.specs.Stores.{StoresOf}
 use Rattle.cli_store.specs.Import.{ImportWritten, ZoneStored}
+use Rattle.cli_store.specs.ImportList.{ListImported}
 use Rattle.cli_store.specs.ZoneHistory.{BlamePrinted, ExportEnds, UndoPrinted}
 use Rattle.cli_store.specs.Migrate.{MigrationWritten, StoreMigrated}
 use Rattle.cli_store.specs.StoreList.{ZonesPrinted}
@@ -84,6 +85,10 @@ named a path = record { left = a.file path; fine = ⊤; failed = a.unreadable pa
 
 abbrev pub ended : InputOf
 ended = record { left = Some []; fine = ⊤; failed = ⊥ }
+
+-- this is so of the input that a path names: of standard input, if it is `-`, or of a file, and then standard input is not read
+abbrev pub OfInput : {H : Type 0} → Around H → Reading → List ℕ → (InputOf → Type 0) → Type 0
+OfInput a i path holds = ((path ≢ codes "-") × IsUnread i × holds (named a path)) ⊎ ((path ≡ codes "-") × holds (standard i))
 
 -- ---- the exit status
 
@@ -216,6 +221,8 @@ abbrev pub StoreJobEnds : {C H P : Type 0} → Around H → Callers H P → Stor
 StoreJobEnds a p s i o t (store_job.Import w) left status =
     IsIdle t × Ends (λ outcome. ImportWritten w.zone.origin.now i.left o.old o.new outcome (i.after ≡ i.before) (i.before < i.after) o.before o.after
     × ZoneStored s w.zone.store.now w.zone.origin.now w.existing i.left left o.old o.new outcome (i.after ≡ i.before) (i.before < i.after) o.before o.after) status
+StoreJobEnds a p s i o t (store_job.ImportList w) left status =
+    IsIdle t × OfInput a i w.list.now (λ list. Ends (λ outcome. ListImported a s w list left o outcome) status)
 StoreJobEnds a p s i o t (store_job.Export w) left status =
     IsIdle t × IsUnread i × Ends (λ outcome. ExportEnds s w.zone.store.now w.zone.origin.now w.at w.form left o.old o.new outcome o.before o.after) status
 StoreJobEnds a p s i o t (store_job.Zones w) left status =

@@ -50,11 +50,13 @@ use Rattle.cli_text.specs.Canon.{zone_read}
 use Rattle.wire_tcp.specs.Connections.{Visit, Moment, Writing, joined, ends, AreServed, AreReported, AreTraced}
 use Rattle.cli_store.specs.Around.{Around, Callers}
 use Rattle.cli_store.specs.Import.{imported_line}
-use Rattle.cli_store.specs.Program.{Reading, Ends, IsIdle, WordsEnd}
+use Rattle.cli_store.specs.ImportList.{Passed, stayed, came, ArePassed, AreAllTold, IsStopTold, TakesAll, states_passed}
+use Rattle.cli_store.specs.Program.{Reading, Ends, IsIdle, OfInput, WordsEnd}
 use Rattle.cli_store.specs.Puts.{put_into, with_put}
 use Rattle.cli_store.specs.Reports.{IsReported}
 use Rattle.cli_store.specs.Serve.{TableAt, policy_read, most_of, listening_line, IsHeard, limits_by, parties_of}
 use Rattle.cli_store.specs.Stores.{stores_of}
+use Rattle.cli_store.specs.ZoneFiles.{ZoneFileOf, zone_files_read}
 
 -- ---- what is on the disk
 
@@ -188,9 +190,9 @@ pub record IsZoneMade (origin : List ℕ) (existing : Existing) (s : State) (i :
   pub hand : c.hand ≡ []
 
 -- The zone that was read was made, which the store could take, though a failure was told.
-pub record IsZoneInHand (origin : List ℕ) (existing : Existing) (s : State) (i : Reading) (fault : LineFault) (hand : List Deed) : Type 0 where
+pub record IsZoneInHand (origin : List ℕ) (existing : Existing) (s : State) (left : Option (List ℕ)) (fault : LineFault) (hand : List Deed) : Type 0 where
   pub zone : ZoneOf
-  pub read : Makes i.left (zone_read origin) (Ok zone)
+  pub read : Makes left (zone_read origin) (Ok zone)
   pub taken : put_into existing s zone ≡ Ok zone
   pub refusal : StoreFault
   pub failed : IsFailure refusal
@@ -202,7 +204,29 @@ pub record IsZoneRefused (origin : List ℕ) (existing : Existing) (s : State) (
   pub fault : LineFault
   pub line : IsReported (Err fault) o.old o.new outcome o.before o.after
   pub told : c.told ≡ []
-  pub hand : (c.hand ≡ []) ⊎ IsZoneInHand origin existing s i fault c.hand
+  pub hand : (c.hand ≡ []) ⊎ IsZoneInHand origin existing s i.left fault c.hand
+
+-- the zones that came, as deeds
+abbrev pub deeds_in : Existing → List Passed → List Deed
+deeds_in existing [] = []
+deeds_in existing (stayed origin ∷ done) = deeds_in existing done
+deeds_in existing (came zone ∷ done) = put existing zone ∷ deeds_in existing done
+
+-- An import of a list passed the first zones, each of which the store could take at its turn, and made those that came. Either all of them
+-- were told; or the next zone was refused, which is told, and nothing more was made, or the zone in hand, where the store failed.
+pub record AreZonesMade {H : Type 0} (a : Around H) (existing : Existing) (s : State) (zones : List ZoneFileOf) (o : Writing) (outcome : Result (Unit {0}) JobFault) (c : Course) : Type 0 where
+  pub done : List Passed
+  pub later : List ZoneFileOf
+  pub passed : ArePassed a existing zones done later
+  pub taken : TakesAll existing s done
+  pub told : c.told ≡ deeds_in existing done
+  pub end : (AreAllTold done later o outcome × (c.hand ≡ []))
+      ⊎ ((stop : IsStopTold done later o outcome)
+      × ((c.hand ≡ []) ⊎ IsZoneInHand stop.zone.word existing (states_passed existing s done) (a.file stop.zone.path) stop.fault c.hand))
+
+-- No zone of a list was put: the line of a refusal was written, of the list or of the store.
+abbrev pub AreNoneMade : Writing → Result (Unit {0}) JobFault → Course → Type 0
+AreNoneMade o outcome c = IsNothing c × ((fault : LineFault) × IsRefusalWritten o.old o.new fault outcome o.before o.after)
 
 -- No connection was served: a refusal was written in the place of the line of the address, or that line did not go out whole.
 abbrev pub IsUnserved : Writing → Writing → Result (Unit {0}) JobFault → Type 0
@@ -239,10 +263,13 @@ pub record IsServed {C H P : Type 0} (shows : C → Shown) (a : Around H) (p : C
   pub hand_is : c.hand ≡ called_by rules hand
 
 -- What is around, who calls, what connections show, the state on the disk, the streams, the job, its status, and what came of it: only an
--- import and a service make anything.
+-- import, of a zone or of a list, and a service make anything.
 abbrev pub JobMakes : {C H P : Type 0} → (C → Shown) → Around H → Callers H P → State → Reading → Writing → Writing → Job → ℕ → Course → Type 0
 JobMakes shows a p s i o t (job.Store (store_job.Import w)) status c =
     Ends (λ outcome. IsZoneMade w.zone.origin.now w.existing s i o outcome c ⊎ IsZoneRefused w.zone.origin.now w.existing s i o outcome c) status
+JobMakes shows a p s i o t (job.Store (store_job.ImportList w)) status c =
+    OfInput a i w.list.now (λ list. Ends (λ outcome. AreNoneMade o outcome c
+    ⊎ ((zones : List ZoneFileOf) × Makes list.left zone_files_read (Ok zones) × AreZonesMade a w.existing s zones o outcome c)) status)
 JobMakes shows a p s i o t (job.Store (store_job.Serve service)) status c =
     Ends (λ outcome. (IsUnserved o t outcome × IsNothing c) ⊎ IsServed shows a p service s o t outcome c) status
 JobMakes shows a p s i o t asked status c = IsNothing c

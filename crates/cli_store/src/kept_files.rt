@@ -1,4 +1,4 @@
-//! Surroundings that keep the beginning of each file that they read.
+//! Surroundings that keep the beginnings of the files that they read last.
 
 ghost use Rattle.std.specs.Prelude.{◌≡◌};
 
@@ -39,7 +39,10 @@ impl KeptFile {
     }
 }
 
-/// Surroundings that keep the beginning of each file that they read. If memory is short they keep fewer.
+/// How many files are kept: no job that hints are given of reads more, and an import of a list reads many.
+const FILES_MAX: usize = 2;
+
+/// Surroundings that keep the beginnings of the last two files that they read. If memory is short they keep fewer.
 #[derive(Drop)]
 pub(crate) struct KeptFiles<'a, M> {
     around: &'a M,
@@ -57,7 +60,7 @@ impl<'a, M> KeptFiles<'a, M> {
         }
     }
 
-    /// The files that were read, in the order in which they were read.
+    /// The files that were read last, in the order in which they were read.
     pub(crate) fn into_files(self) -> Vec<KeptFile> {
         let KeptFiles { around: _, files } = self;
         files.into_inner()
@@ -69,6 +72,9 @@ impl<'a, M> KeptFiles<'a, M> {
             return;
         };
         if let Ok(mut files) = self.files.try_borrow_mut() {
+            if files.len() >= FILES_MAX {
+                let _ = files.remove(0);
+            }
             let _ = files.push(file);
         }
     }

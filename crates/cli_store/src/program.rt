@@ -5,9 +5,11 @@ ghost use Rattle.std.specs.Process.{exit_status};
 ghost use Rattle.sqlite.specs.Held.{state};
 ghost use Rattle.cli_text.specs.Plan.{IsPlanned};
 ghost use Rattle.cli_store.specs.Stores.{stores_of};
-ghost use Rattle.cli_store.specs.Program.{Ends, EndsTask, EndsCheck, EndsChanges, EndsCheckOf, EndsExpectedBy, EndsExpected, EndsZonesBy, EndsZones, EndsTaskOf, IsInquiredOf, AnswerEnds, DiffersBy, named, standard, requested, CheckEnds, TextJobEnds, StoreJobEnds, JobEnds, EndsFault, WordsEnd, IsToldWhole, status_of, check_status_of};
+ghost use Rattle.cli_store.specs.ImportList.{ListImported};
+ghost use Rattle.cli_store.specs.Program.{Ends, OfInput, EndsTask, EndsCheck, EndsChanges, EndsCheckOf, EndsExpectedBy, EndsExpected, EndsZonesBy, EndsZones, EndsTaskOf, IsInquiredOf, AnswerEnds, DiffersBy, named, standard, requested, CheckEnds, TextJobEnds, StoreJobEnds, JobEnds, EndsFault, WordsEnd, IsToldWhole, status_of, check_status_of};
 
 use crate::files::StoreFiles;
+use crate::import_list::import_all;
 use crate::migration::migrate;
 use crate::past_zone::export_by;
 use crate::service::serve;
@@ -18,8 +20,8 @@ use crate::zone_blame::blame;
 use crate::zone_undo::undo;
 use crate::zones::import;
 use cli_core::{
-    Answer, Check, DiffForm, Input, Job, JobFault, NO_MEMORY_LINE, RequestForm, StoreJob, TextJob,
-    WordsFault, ZoneFiles, read_words, write_text,
+    Answer, Check, DiffForm, ImportList, Input, Job, JobFault, NO_MEMORY_LINE, RequestForm,
+    StoreJob, TextJob, WordsFault, ZoneFiles, read_words, write_text,
 };
 use cli_text::{
     AnswerFault, Apply, DiffFault, Findings, Request, Split, Subject, Task, do_answers, do_changes,
@@ -471,6 +473,28 @@ fn left<M: Surroundings, C: Drop, F: Display + Drop>(
     (conn, ended(around, done))
 }
 
+/// Puts the zones of a list into a store, by the list of a path: standard input, if it is `-`, or a file.
+fn import_list<M: Surroundings, S: Alter + Drop, P: StoreFiles<S> + Drop, R: Source, W: Sink>(
+    around: &M,
+    files: P,
+    words: ImportList<'_>,
+    input: &mut R,
+    output: &mut W,
+) -> (Option<Connection<S>>, Result<(), JobFault>)
+    ensures { OfInput (M.around around.now)
+        (record { left = R.remaining input.old; rest = R.remaining input.new; before = R.failures input.old; after = R.failures input.new })
+        words.entry.list.now
+        (λ list. ListImported (M.around around.now) (stores_of (state S.Store) (P.finds files) (P.refuses files) (P.connects files)) words.entry list result.0
+        (record { old = W.contents output.old; new = W.contents output.new; before = W.failures output.old; after = W.failures output.new }) result.1) }
+{
+    let path = words.list;
+    if is_standard(path) {
+        return import_all(around, files, words, input, output);
+    }
+    let mut file = NamedFile { around, path };
+    import_all(around, files, words, &mut file, output)
+}
+
 /// Does a job with a store, by the files of stores, with standard input and output and a trace. The connection to the store is handed
 /// back, if one was made.
 fn done<M: Surroundings, S: Alter + Drop, P: StoreFiles<S> + Drop, R: Source, W: Sink, E: Sink>(
@@ -494,6 +518,7 @@ fn done<M: Surroundings, S: Alter + Drop, P: StoreFiles<S> + Drop, R: Source, W:
         StoreJob::Import(words) => {
             import(alloc, files, (words.zone, words.existing), input, output)
         }
+        StoreJob::ImportList(words) => import_list(around, files, words, input, output),
         StoreJob::Export(words) => export_by(alloc, files, words, output),
         StoreJob::Zones(words) => list_zones(alloc, files, words.store, output),
         StoreJob::Log(words) => log(alloc, files, words.zone, words.choice, output),

@@ -59,9 +59,9 @@ fn imported_text(alloc: Global, zone: &Zone) -> Result<String, AllocError>
 /// A zone that is put into a table: beside the others, or in the place of the one of its origin. The refusals are those of the table:
 /// `ZoneExists`, or `NoZone` and `SerialNotGreater`.
 #[derive(Drop)]
-struct ZonePut<'a> {
-    zone: &'a Zone,
-    existing: Existing,
+pub(crate) struct ZonePut<'a> {
+    pub(crate) zone: &'a Zone,
+    pub(crate) existing: Existing,
 }
 
 impl TableJob<()> for ZonePut<'_> {
@@ -81,7 +81,7 @@ impl TableJob<()> for ZonePut<'_> {
 }
 
 /// The table of the store of a path for a zone: it is made if it is missing, unless a zone is to be replaced.
-fn reached<S: Alter + Drop, L: Ledger, P: StoreFiles<S> + Drop>(
+pub(crate) fn reached<S: Alter + Drop, L: Ledger, P: StoreFiles<S> + Drop>(
     alloc: Global,
     files: P,
     path: &str,
@@ -127,7 +127,7 @@ fn put_by<S: Alter + Drop, L: Ledger, P: StoreFiles<S> + Drop>(
 }
 
 /// The line of what was done, or the fault that it met.
-fn line_of(done: Result<(), StoreFault>, text: String) -> Result<String, LineFault>
+pub(crate) fn line_of(done: Result<(), StoreFault>, text: String) -> Result<String, LineFault>
     ensures { result ≡ result_map_both (λ _. text) of_store done }
 {
     match done {
@@ -137,7 +137,7 @@ fn line_of(done: Result<(), StoreFault>, text: String) -> Result<String, LineFau
 }
 
 /// Reads a zone, and makes the line that tells of it. The line is made before the zone is put, so that memory cannot run out after it.
-fn zone_with_line<R: Input>(
+pub(crate) fn zone_with_line<R: Input>(
     alloc: Global,
     origin: &str,
     reader: &mut R,
