@@ -64,7 +64,7 @@ fn push_blamed(
     rr: &Record,
     bringer: &Option<u64>,
 ) -> Result<(), AllocError>
-    ensures { OnOk result (string_bytes text.new ≡ string_bytes text.old ++ blame_line name.now (rr.now, bringer.now)) }
+    ensures { OnOk result (string_bytes text.new ≡ string_bytes text.old ++ blame_line name.now rr.now bringer.now) }
 {
     if !is_asked(name, rr) {
         return Ok(());
@@ -92,7 +92,6 @@ fn blamed_text(
 
 /// The records of a zone that are asked for, each after the number of the change that brought it, and after 0 where it was there from
 /// the first on. The only error is out of memory.
-#[tactic(auto, using(crate::proofs::BlameLemmas::zip_with))]
 fn blame_text(
     alloc: Global,
     asked: &BlameAsked,
