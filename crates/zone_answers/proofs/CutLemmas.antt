@@ -51,18 +51,18 @@ in_turn name a b p q = by_fronts name p.0 q.0 p.1 q.1
         by_fronts name f g first second
 
 -- the root is within itself only
-within_root : (top : Name) → IsWithin [] top → top ≡ []
+pub within_root : (top : Name) → IsWithin [] top → top ≡ []
 within_root top p = nil_from_length top (omega (arith, ap (length {A = List ℕ}) p.1, length-append p.0 top))
 
 -- a name with one label more is within that name, or it is the other
-within_or_is : (label : List ℕ) (labels top : Name) → IsWithin (label ∷ labels) top → (top ≡ label ∷ labels) ⊎ IsWithin labels top
+pub within_or_is : (label : List ℕ) (labels top : Name) → IsWithin (label ∷ labels) top → (top ≡ label ∷ labels) ⊎ IsWithin labels top
 within_or_is label labels top p = by_front p.0 p.1
   where
     by_front : (front : Name) → label ∷ labels ≡ front ++ top → (top ≡ label ∷ labels) ⊎ IsWithin labels top
     by_front [] e = inl (sym e)
     by_front (f ∷ front) e = let rest : labels ≡ front ++ top = cc in inr (front, rest)
 
-one_more : (label : List ℕ) (labels top : Name) → IsWithin labels top → IsWithin (label ∷ labels) top
+pub one_more : (label : List ℕ) (labels top : Name) → IsWithin labels top → IsWithin (label ∷ labels) top
 one_more label labels top p = (label ∷ p.0, ap (λ (n : Name). label ∷ n) p.1)
 
 -- names that each come before the next are sorted
@@ -110,7 +110,7 @@ module _ (names : List Name) (apart : AreApart names) where
 -- ---- the cut over a name
 
 module _ (origin : Name) (rs : List Record) where
-  cut-Decides : (name : Name) → Decides (is_cut_at origin rs name) (IsCutAt origin rs name)
+  pub cut-Decides : (name : Name) → Decides (is_cut_at origin rs name) (IsCutAt origin rs name)
   cut-Decides name = (
     λ e.
         let found = any_is (same_name name) (cut_owners origin rs) e in

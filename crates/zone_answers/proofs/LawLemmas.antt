@@ -38,11 +38,11 @@ all_among : (P : Record → Type 0) (xs : List Record) (x : Record) → AllByRec
 all_among P [] x all a = absurd a
 all_among P (y ∷ ys) x all a = (elim a [ inl e ↦ subst P (sym e) all.0 | inr later ↦ all_among P ys x all.1 later ])
 
+pub row_in : (rs : List Record) → InOrder rs → (x : Record) → Among x rs → IsIn x (set_of rs)
+row_in rs order x a = get-set_of rs (key_of x) ∙ all_among (λ (y : Record). find key_cmp (key_of y) (keyed rs) ≡ Some y) rs x (each_in rs order) a
+
 pub one_alias : (origin : Name) (rs : List Record) → AreOfZone origin rs → HasOneAlias rs
-one_alias origin rs of r s p q = of.zone.cnames r s (in_set r p) (in_set s q)
-  where
-    in_set : (x : Record) → Among x rs → IsIn x (set_of rs)
-    in_set x a = get-set_of rs (key_of x) ∙ all_among (λ (y : Record). find key_cmp (key_of y) (keyed rs) ≡ Some y) rs x (each_in rs of.order) a
+one_alias origin rs of r s p q = of.zone.cnames r s (row_in rs of.order r p) (row_in rs of.order s q)
 
 pub one_answer : QuestionsHaveOneAnswer
 one_answer origin rs name asked of =
@@ -67,11 +67,11 @@ asked_type rs name t r a =
     let both = (among_filter (λ r. at name t (key_of r)) rs r).0 a in
     one_rank (type_of r.rdata) t (at_is name t (key_of r) both.1).1
 
-among_map : {X Y : Type 0} (f : X → Y) (xs : List X) (y : Y) → Among y (map f xs) → (x : X) × Among x xs × (y ≡ f x)
+pub among_map : {X Y : Type 0} (f : X → Y) (xs : List X) (y : Y) → Among y (map f xs) → (x : X) × Among x xs × (y ≡ f x)
 among_map f [] y a = absurd a
 among_map f (x ∷ xs) y a = (elim a [ inl e ↦ (x, inl refl, e) | inr later ↦ (let found = among_map f xs y later in (found.0, inr found.1, found.2)) ])
 
-among_flat : {X Y : Type 0} (f : X → List Y) (xs : List X) (y : Y) → Among y (flat_map f xs) → (x : X) × Among x xs × Among y (f x)
+pub among_flat : {X Y : Type 0} (f : X → List Y) (xs : List X) (y : Y) → Among y (flat_map f xs) → (x : X) × Among x xs × Among y (f x)
 among_flat f [] y a = absurd a
 among_flat f (x ∷ xs) y a = (elim ((among_append (f x) (flat_map f xs) y).0 a) [ inl here ↦ (x, inl refl, here) | inr later ↦ (let found = among_flat f xs y later in (found.0, inr found.1, found.2)) ])
 
@@ -236,11 +236,11 @@ nowhere origin rs name asked a is = (
 
 -- ---- the answers of an index
 
-if_ok : {X E : Type 0} {P Q : X → Type 0} (r : Result X E) → ((x : X) → P x → Q x) → IfOk r P → IfOk r Q
+pub if_ok : {X E : Type 0} {P Q : X → Type 0} (r : Result X E) → ((x : X) → P x → Q x) → IfOk r P → IfOk r Q
 if_ok (Ok x) more p = more x p
 if_ok (Err e) more p = p
 
-of_zone : (zone : ZoneOf) → IsZone zone → (rows : List Record) → InOrder rows → set_of rows ≡ zone.records → AreOfZone zone.origin rows
+pub of_zone : (zone : ZoneOf) → IsZone zone → (rows : List Record) → InOrder rows → set_of rows ≡ zone.records → AreOfZone zone.origin rows
 of_zone zone is rows order set = record { order = order; zone = subst (λ (s : Records). IsZone (record { origin = zone.origin; records = s })) (sym set) is }
 
 module _ (zone : ZoneOf) (is : IsZone zone) (rows : List Record) (order : InOrder rows) (set : set_of rows ≡ zone.records) (listed : rows ≡ listing zone.records)

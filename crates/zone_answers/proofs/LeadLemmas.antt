@@ -75,7 +75,7 @@ now_asked : (before : List Record) (a : Record) (name : Name) → a.owner ≡ na
 now_asked before a name e =
     is_any (λ r. same_name r.owner name) (before ++ a ∷ []) a ((among_append before (a ∷ []) a).1 (inr (inl refl))) (ap (λ (n : Name). same_name n name) e ∙ name_self name)
 
-cname_is : (d : Data) → type_of d ≡ types.Cname → (target : Name) × (d ≡ variants.Cname target)
+pub cname_is : (d : Data) → type_of d ≡ types.Cname → (target : Name) × (d ≡ variants.Cname target)
 cname_is (variants.Cname target) e = (target, refl)
 cname_is d e = absurd cc
 

@@ -4,3 +4,11 @@ pub mod FindingLemmas
 pub mod FollowLemmas
 pub mod LeadLemmas
 pub mod LawLemmas
+pub mod ZoneLemmas
+pub mod SamenessLemmas
+pub mod UnderLemmas
+pub mod RenamedLemmas
+pub mod KnownLemmas
+pub mod ChangeLemmas
+pub mod RowOrderLemmas
+pub mod RowLemmas

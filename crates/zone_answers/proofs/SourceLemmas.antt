@@ -1,11 +1,12 @@
 -- The name whose records answer.
-use Rattle.std.proofs.Common.{◌≡◌, ◌↔◌, ◌+◌, ◌≤◌, List, [], ◌∷◌, ◌++◌, Bool, true, false, cond, Option, Some, None, Ok, nat_lt, refl, sym, ap, subst, ◌∙◌, arith, inl, inr}
+use Rattle.std.proofs.Common.{◌≡◌, ◌↔◌, ℕ, ◌+◌, ◌≤◌, List, [], ◌∷◌, ◌++◌, Bool, true, false, cond, Option, Some, None, Ok, Err, nat_lt, refl, sym, ap, subst, ◌∙◌, arith, inl, inr}
 use Rattle.std.specs.Bool.{Decides}
-use Rattle.std.specs.List.{filter}
+use Rattle.std.specs.List.{Contains, filter}
 use Rattle.std.proofs.lemmas.Bool.{false_from_ne_true}
 use Rattle.std.proofs.lemmas.Bool.Decides.{nat_tests}
 use Rattle.dns_names.specs.Labels.{is_within, wire_len}
-use Rattle.dns_names.specs.Reading.{relative_name, symbols_within}
+use Rattle.dns_names.specs.Reading.{relative_name, symbols_within, fitting}
+use Rattle.dns_names.specs.declared.name_fault.NameFault.TheVariants.{NameTooLong}
 use Rattle.dns_names.proofs.NameLemmas.{is_within-Decides}
 use Rattle.dns_data.specs.declared.record.Record.{Record}
 use Rattle.zone_core.proofs.MetLemmas.{Among, among_of, of_among, any_is, is_any}
@@ -21,6 +22,34 @@ wildcard_read encloser room =
     let fits : nat_lt 255 (1 + 1 + wire_len encloser) ≡ false = grind (arith, nat_tests) in
     rw fits refl
 
+-- it is read unless it is too long
+wildcard_text : (encloser : Name) → relative_name encloser (42 ∷ []) ≡ fitting (asterisk ∷ encloser)
+unfolding symbols_within
+wildcard_text encloser = refl
+
+pub wildcard_is_read : (encloser name : Name) → relative_name encloser (42 ∷ []) ≡ Ok name → name ≡ asterisk ∷ encloser
+wildcard_is_read encloser name e = by_test (nat_lt 255 (wire_len (asterisk ∷ encloser))) (sym (wildcard_text encloser) ∙ e)
+  where
+    by_test : (b : Bool) → cond b (Err NameTooLong) (Ok (asterisk ∷ encloser)) ≡ Ok name → name ≡ asterisk ∷ encloser
+    by_test true f = absurd cc
+    by_test false f = (let same : asterisk ∷ encloser ≡ name = cc in sym same)
+
+wildcard_long : (encloser : Name) → relative_name encloser (42 ∷ []) ≡ Err NameTooLong → nat_lt 255 (wire_len (asterisk ∷ encloser)) ≡ true
+wildcard_long encloser e = by_test (nat_lt 255 (wire_len (asterisk ∷ encloser))) refl (sym (wildcard_text encloser) ∙ e)
+  where
+    by_test : (b : Bool) → nat_lt 255 (wire_len (asterisk ∷ encloser)) ≡ b → cond b (Err NameTooLong) (Ok (asterisk ∷ encloser)) ≡ Err NameTooLong
+        → nat_lt 255 (wire_len (asterisk ∷ encloser)) ≡ true
+    by_test true t f = t
+    by_test false t f = absurd cc
+
+above_all : (n : ℕ) → nat_lt 255 n ≡ true → n ≤ 255 → ⊥
+above_all n e le = grind (arith, nat_tests)
+
+-- a name with more labels is no shorter
+wire_more : (front name : Name) → wire_len name ≤ wire_len (front ++ name)
+wire_more [] name = omega arith
+wire_more (label ∷ front) name = omega (arith, wire_more front name)
+
 -- ---- names that exist
 
 module _ (rs : List Record) where
@@ -29,6 +58,20 @@ module _ (rs : List Record) where
     λ e. let found = any_is (λ r. is_within r.owner name) rs e in (found.0, of_among rs found.0 found.1, (is_within-Decides found.0.owner name).0 found.2),
     λ has. is_any (λ r. is_within r.owner name) rs has.0 (among_of rs has.0 has.1) ((is_within-Decides has.0.owner name).1 has.2),
   )
+
+  -- a wildcard that is too long for a name does not exist
+  pub long_is_not : ((r : Record) → Contains rs r → wire_len r.owner ≤ 255) → (encloser : Name) → relative_name encloser (42 ∷ []) ≡ Err NameTooLong
+      → None ≡ if_there rs (Some (asterisk ∷ encloser))
+  long_is_not short encloser e =
+      let long : nat_lt 255 (wire_len (asterisk ∷ encloser)) ≡ true = wildcard_long encloser e in
+      let gone : is_there rs (asterisk ∷ encloser) ≡ false =
+      false_from_ne_true (is_there rs (asterisk ∷ encloser)) (λ t.
+      let has = (there-Decides (asterisk ∷ encloser)).0 t in
+      let fits : wire_len has.0.owner ≤ 255 = short has.0 has.1 in
+      let more : wire_len (asterisk ∷ encloser) ≤ wire_len (has.2.0 ++ asterisk ∷ encloser) = wire_more has.2.0 (asterisk ∷ encloser) in
+      let same : wire_len has.0.owner ≡ wire_len (has.2.0 ++ asterisk ∷ encloser) = ap wire_len has.2.1 in
+      above_all (wire_len (asterisk ∷ encloser)) long (omega (arith, fits, more, same))) in
+      sym (ap (λ b. cond b (Some (asterisk ∷ encloser)) None) gone)
 
   -- above what exists all exists
   pub exists_above : (name : Name) (front : Name) (above : Name) → name ≡ front ++ above → Exists rs name → Exists rs above

@@ -2,3 +2,5 @@ pub mod Answers
 pub mod AnswerTests
 pub mod Views
 pub mod AnswerLaws
+pub mod AnswerChanges
+pub mod ChangeTests

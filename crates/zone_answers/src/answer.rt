@@ -5,6 +5,7 @@ ghost use Rattle.std.specs.List.{flat_map};
 ghost use Rattle.zone_core.specs.Sets.{listing};
 ghost use Rattle.zone_answers.specs.Answers.{code_of, authority_over, answered_as, negative_soa, answer_in, authority_in, addresses_in, additional_in, answer_with, AnswerOf, IsAnswer};
 ghost use Rattle.zone_answers.specs.AnswerTests.{was_asked, target_of, follow, answer_to};
+ghost use Rattle.zone_answers.specs.ChangeTests.{answer_under};
 ghost use Rattle.zone_answers.specs.Views.{found_in, answer_of, Steps};
 
 use crate::finding::{Finding, alias_in};
@@ -187,6 +188,16 @@ fn follow_one(
     Ok(())
 }
 
+/// The root. The only error is out of memory.
+fn root(alloc: Global) -> Result<Name, AllocError>
+    ensures { IfOk result (λ name. name ≡ []) }
+{
+    match Name::read_absolute(alloc, b".") {
+        Ok(name) => Ok(name),
+        Err(_) => Err(AllocError),
+    }
+}
+
 impl ZoneIndex {
     /// One step from a name: follows the alias that is found, or gives what else is found. The only error is out of memory.
     fn step(
@@ -211,17 +222,18 @@ impl ZoneIndex {
         }
     }
 
-    /// Follows aliases from a name to a last one, and gives what is found there. The only error is out of memory.
+    /// Follows at most so many aliases from a name to a last one, and gives what is found there. The only error is out of memory.
     fn follow(
         &self,
         alloc: Global,
         aliases: &mut Vec<Record>,
         name: &mut Name,
         asked: QueryType,
+        most: usize,
     ) -> Result<Finding<'_>, AllocError>
-        ensures { IfOk result (λ finding. answer_with self.now.origin (listing self.now.records) aliases.new.items name.new (found_in finding) ≡ follow self.now.origin (listing self.now.records) asked (2 + length (listing self.now.records)) aliases.old.items name.old) }
+        ensures { IfOk result (λ finding. answer_with self.now.origin (listing self.now.records) aliases.new.items name.new (found_in finding) ≡ follow self.now.origin (listing self.now.records) asked most aliases.old.items name.old) }
     {
-        for _ in 0..self.zone.records().len() + 2 {
+        for _ in 0..most {
             if let Some(finding) = self.step(alloc, aliases, name, asked)? {
                 return Ok(finding);
             }
@@ -254,13 +266,43 @@ impl ZoneIndex {
     }
 
     /// The answer to a question. The only error is out of memory.
-    fn answered(&self, alloc: Global, name: &Name, asked: QueryType) -> Result<Answer, AllocError>
+    pub(crate) fn answered(
+        &self,
+        alloc: Global,
+        name: &Name,
+        asked: QueryType,
+    ) -> Result<Answer, AllocError>
         ensures { IfOk result (λ answer. answer_of answer ≡ answer_to self.now.origin (listing self.now.records) name.now asked) }
     {
         let mut aliases = Vec::new(alloc);
         let mut last = name.try_copy(alloc)?;
-        let finding = self.follow(alloc, &mut aliases, &mut last, asked)?;
+        let most = 2 + self.zone.records().len();
+        let finding = self.follow(alloc, &mut aliases, &mut last, asked, most)?;
         self.finish(alloc, aliases, &last, &finding)
+    }
+
+    /// The answer for the names below a name of which none nearer exists, and to which no alias leads, with the root in the place of
+    /// the name. The only error is out of memory.
+    pub(crate) fn answer_under(
+        &self,
+        alloc: Global,
+        encloser: &Name,
+        asked: QueryType,
+    ) -> Result<Answer, AllocError>
+        ensures { IfOk result (λ answer. answer_of answer ≡ answer_under self.now.origin (listing self.now.records) encloser.now asked) }
+    {
+        let mut aliases = Vec::new(alloc);
+        let mut last = root(alloc)?;
+        let finding = self.find_under(alloc, encloser, asked)?;
+        match alias_in(&finding) {
+            Some(alias) => {
+                follow_one(alloc, &mut aliases, &mut last, alias)?;
+                let most = 1 + self.zone.records().len();
+                let end = self.follow(alloc, &mut aliases, &mut last, asked, most)?;
+                self.finish(alloc, aliases, &last, &end)
+            }
+            None => self.finish(alloc, aliases, &last, &finding),
+        }
     }
 
     /// What an authoritative server answers to a question (RFC 1034 section 4.3.2). It takes a look-up for each label of the names that are

@@ -1,11 +1,12 @@
 //! What is found in a zone for one name, before aliases are followed.
 
-ghost use Rattle.std.specs.Prelude.{◌≡◌, ◌∷◌, ◌+◌, ◌≤◌, IfOk};
+ghost use Rattle.std.specs.Prelude.{◌≡◌, ◌∷◌, ◌+◌, ◌≤◌, Some, IfOk};
 ghost use Rattle.std.specs.Option.{option_copied};
 ghost use Rattle.dns_names.specs.Labels.{wire_len};
 ghost use Rattle.zone_core.specs.Sets.{listing};
 ghost use Rattle.zone_answers.specs.Answers.{asterisk, asks_alias};
 ghost use Rattle.zone_answers.specs.AnswerTests.{wildcard_over, if_there, source_of, is_ds, unless_parent, cut_over, referral, followed_at, found_from, found_below, found_at, alias_in};
+ghost use Rattle.zone_answers.specs.ChangeTests.{wildcard_under, found_under};
 ghost use Rattle.zone_answers.specs.Views.{found_in};
 
 use crate::cut_names::cut_over;
@@ -13,7 +14,7 @@ use crate::query_type::QueryType;
 use crate::rows::{asked_at, is_there};
 use crate::zone_index::ZoneIndex;
 use dns_data::{Record, RecordType};
-use dns_names::Name;
+use dns_names::{Name, NameFault};
 use std::alloc::{AllocError, Global};
 use zone_core::Zone;
 
@@ -74,6 +75,32 @@ fn if_there(zone: &Zone, name: Option<Name>) -> Option<Name>
         }
         None => None,
     }
+}
+
+/// The wildcard below a name, if it exists. The only error is out of memory.
+fn wildcard_there(alloc: Global, zone: &Zone, encloser: &Name) -> Result<Option<Name>, AllocError>
+    ensures { IfOk result (λ found. found ≡ if_there (listing zone.now.records) (Some (asterisk ∷ encloser.now))) }
+{
+    // the proof needs that all owners are names
+    let _ = zone.records();
+    match Name::read_relative(alloc, b"*", encloser) {
+        Ok(name) => Ok(if_there(zone, Some(name))),
+        // no owner is so long
+        Err(NameFault::NameTooLong) => Ok(None),
+        Err(_) => Err(AllocError),
+    }
+}
+
+/// The name whose records answer for the names below a name of which none nearer exists: the wildcard below their closest encloser, if
+/// it exists. The only error is out of memory.
+fn source_under(alloc: Global, zone: &Zone, encloser: &Name) -> Result<Option<Name>, AllocError>
+    ensures { IfOk result (λ source. source ≡ if_there (listing zone.now.records) (wildcard_under (listing zone.now.records) encloser.now)) }
+{
+    if is_there(zone, encloser) {
+        return wildcard_there(alloc, zone, encloser);
+    }
+    let wildcard = wildcard_over(alloc, zone, encloser)?;
+    Ok(if_there(zone, wildcard))
 }
 
 /// The name whose records answer: the name itself, if it exists, else the wildcard, if that exists. The only error is out of memory.
@@ -198,5 +225,23 @@ impl ZoneIndex {
             return Ok(Finding::Outside);
         }
         found_below(alloc, &self.zone, name, asked, self.referral(name, asked))
+    }
+
+    /// What is found for the names below a name of which none nearer exists. The only error is out of memory.
+    pub(crate) fn find_under(
+        &self,
+        alloc: Global,
+        encloser: &Name,
+        asked: QueryType,
+    ) -> Result<Finding<'_>, AllocError>
+        ensures { IfOk result (λ finding. found_in finding ≡ found_under self.now.origin (listing self.now.records) encloser.now asked) }
+    {
+        match self.outermost_cut(encloser) {
+            Some(cut) => Ok(Finding::Delegated(cut)),
+            None => {
+                let source = source_under(alloc, &self.zone, encloser)?;
+                Ok(found_from(&self.zone, &source, asked))
+            }
+        }
     }
 }

@@ -3,14 +3,18 @@
 #![tactic(auto)]
 
 mod answer;
+mod changes;
 mod cut_names;
 mod finding;
+mod known_names;
 mod laws;
 mod query_type;
 mod rows;
+mod sameness;
 mod zone_index;
 
 pub use answer::Answer;
+pub use changes::{ChangedAnswers, QuestionGroup, changed_answers};
 pub use laws::{
     answers_are_of_zones, cuts_refer, missing_names_are_nowhere, questions_have_one_answer,
 };

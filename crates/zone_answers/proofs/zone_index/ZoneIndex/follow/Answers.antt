@@ -1,4 +1,4 @@
-use Rattle.std.proofs.Common.{◌≡◌, ℕ, suc, ◌+◌, ◌-◌, length, ap, subst, ◌∙◌, arith}
+use Rattle.std.proofs.Common.{◌≡◌, ℕ, suc, ◌+◌, ◌-◌, ap, subst, ◌∙◌, arith}
 use Rattle.zone_core.specs.Sets.{listing}
 use Rattle.zone_answers.specs.AnswerTests.{follow}
 use Rattle.zone_answers.specs.Views.{Steps}
@@ -9,10 +9,9 @@ pub returns-in-Some : goal.returns-in-Some
 returns-in-Some c =
     let zone = c.args.self.now in
     let rs = listing zone.records in
-    let len : length c.records.result.now ≡ length rs = cc in
-    let more : suc (2 + length rs - (c.loop.counter + 1)) ≡ 2 + length rs - c.loop.counter = omega arith in
+    let more : suc (c.args.most - (c.loop.counter + 1)) ≡ c.args.most - c.loop.counter = omega arith in
     let steps = subst (Steps zone.origin rs c.args.asked c.loop.aliases.items c.loop.name c.step.new.aliases.items c.step.new.name) c.in-Some.is c.in_ok-finding.ensures in
-    steps (2 + length rs - (c.loop.counter + 1))
+    steps (c.args.most - (c.loop.counter + 1))
     ∙ ap (λ (n : ℕ). follow zone.origin rs c.args.asked n c.loop.aliases.items c.loop.name) more
     ∙ c.loop.invariant
 
@@ -20,8 +19,7 @@ pub returns : goal.returns
 returns c =
     let zone = c.args.self.now in
     let rs = listing zone.records in
-    let len : length c.records.result.now ≡ length rs = cc in
-    let over : 0 ≡ 2 + length rs - c.loop.counter = omega arith in
+    let over : 0 ≡ c.args.most - c.loop.counter = omega arith in
     follow_none zone.origin rs c.args.asked c.loop.aliases.items c.loop.name
     ∙ ap (λ (n : ℕ). follow zone.origin rs c.args.asked n c.loop.aliases.items c.loop.name) over
     ∙ c.loop.invariant
