@@ -111,7 +111,7 @@ enclosed rs name top none below has = by_name name none below
 
 -- ---- names outside
 
-outside_same : (origin : Name) (rs : List Record) (name : Name) (asked : QueryType) → ¬ IsWithin name origin
+pub outside_same : (origin : Name) (rs : List Record) (name : Name) (asked : QueryType) → ¬ IsWithin name origin
     → answer_to origin rs name asked ≡ answer_with origin rs [] name Outside
 outside_same origin rs name asked out =
     let more : 2 + length rs ≡ suc (1 + length rs) = omega arith in
@@ -120,7 +120,7 @@ outside_same origin rs name asked out =
     ap (λ (n : ℕ). follow origin rs asked n [] name) more ∙ first_step origin rs asked (1 + length rs) name
     ∙ ap (λ (f : Found). by_alias origin rs [] name (follow origin rs asked (1 + length rs)) f (alias_in f)) found
 
-outside_are_same : (origin : Name) (old new : List Record) (name : Name) → AreSame (answer_with origin old [] name Outside) (answer_with origin new [] name Outside)
+pub outside_are_same : (origin : Name) (old new : List Record) (name : Name) → AreSame (answer_with origin old [] name Outside) (answer_with origin new [] name Outside)
 outside_are_same origin old new name = record { code = refl; authoritative = refl; answer = refl; authority = refl; additional = refl }
 
 not_is : (b : Bool) → not b ≡ true → b ≡ false

@@ -11,4 +11,5 @@ pub mod RenamedLemmas
 pub mod KnownLemmas
 pub mod ChangeLemmas
 pub mod RowOrderLemmas
+pub mod UnchangedLemmas
 pub mod RowLemmas

@@ -47,13 +47,13 @@ but_serial_decides a b = data_decides a b
 
 -- ---- records
 
-record_decides : (a b : Record) → Decides (same_but_serial a b) (but_serial a ≡ but_serial b)
+pub record_decides : (a b : Record) → Decides (same_but_serial a b) (but_serial a ≡ but_serial b)
 record_decides a b =
     Decides-like (same_but_serial a b) (λ p. λ i. record { owner = p.0.0 i; ttl = p.0.1 i; rdata = p.1 i })
     (λ e. ((ap (λ (x : Record). x.owner) e, ap (λ (x : Record). x.ttl) e), ap (λ (x : Record). x.rdata) e))
     (Decides-and _ _ (Decides-and _ _ (same_name-Decides a.owner b.owner) (Decides-eqb a.ttl b.ttl)) (but_serial_decides a.rdata b.rdata))
 
-whole_decides : (a b : Record) → Decides (same_whole a b) (a ≡ b)
+pub whole_decides : (a b : Record) → Decides (same_whole a b) (a ≡ b)
 whole_decides a b =
     Decides-like (same_whole a b) (λ p. λ i. record { owner = p.0.0 i; ttl = p.0.1 i; rdata = p.1 i })
     (λ e. ((ap (λ (x : Record). x.owner) e, ap (λ (x : Record). x.ttl) e), ap (λ (x : Record). x.rdata) e))
@@ -62,7 +62,7 @@ whole_decides a b =
 -- ---- rows
 
 module _ {X Y : Type 0} (E : X → X → Bool) (f : X → Y) (each : (a b : X) → Decides (E a b) (f a ≡ f b)) where
-  mapped_decides : (xs ys : List X) → Decides (pointwise E xs ys) (map f xs ≡ map f ys)
+  pub mapped_decides : (xs ys : List X) → Decides (pointwise E xs ys) (map f xs ≡ map f ys)
   mapped_decides [] [] = (λ e. refl, λ e. refl)
   mapped_decides [] (y ∷ ys) = (λ e. absurd cc, λ e. absurd cc)
   mapped_decides (x ∷ xs) [] = (λ e. absurd cc, λ e. absurd cc)

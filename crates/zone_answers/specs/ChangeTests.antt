@@ -1,10 +1,11 @@
 -- The same as definitions that compute.
-use Rattle.std.specs.Prelude.{◌+◌, List, [], ◌∷◌, ◌++◌, length, Bool, ◌&&◌, ◌||◌, ◌==◌, not, false, if◌then◌else◌, Option, Some, None}
+use Rattle.std.specs.Prelude.{◌+◌, List, [], ◌∷◌, ◌++◌, length, Bool, ◌&&◌, ◌||◌, ◌==◌, not, true, false, if◌then◌else◌, Option, Some, None}
 use Rattle.std.specs.List.{filter, flat_map}
 use Rattle.std.specs.Cmp.Lexicographic.{pointwise}
 use Rattle.dns_names.specs.Labels.{is_within}
 use Rattle.dns_names.specs.Order.{same_name}
 use Rattle.dns_data.specs.declared.record.Record.{Record}
+use Rattle.dns_data.specs.declared.record_type.RecordType.TheVariants as types
 use Rattle.dns_data.specs.declared.rdata.Data.{Data}
 use Rattle.dns_data.specs.declared.rdata.Data.TheVariants as variants
 use Rattle.dns_data.specs.declared.soa.SoaFields.{SoaFields}
@@ -12,10 +13,11 @@ use Rattle.dns_data.specs.contracts.rdata.DataPartialEq.TheImpl as of_data
 use Rattle.zone_core.specs.Rcodes.{rcode_number}
 use Rattle.zone_core.specs.Zones.{soa_in}
 use Rattle.zone_answers.specs.declared.query_type.QueryType.{QueryType}
+use Rattle.zone_answers.specs.declared.query_type.QueryType.TheVariants.{Kept, Any}
 use Rattle.zone_answers.specs.declared.changes.QuestionGroup.{QuestionGroup}
 use Rattle.zone_answers.specs.declared.changes.QuestionGroup.TheVariants.{At, Others}
 use Rattle.zone_answers.specs.declared.changes.ChangedAnswers.{ChangedAnswers}
-use Rattle.zone_answers.specs.Answers.{Name, asterisk, Found, Delegated, AnswerOf}
+use Rattle.zone_answers.specs.Answers.{Name, asterisk, asked_at, negative_soa, Found, Delegated, AnswerOf}
 use Rattle.zone_answers.specs.AnswerTests.{is_there, wildcard_over, if_there, cut_over, found_from, alias_in, by_alias, follow, answer_to}
 use Rattle.zone_answers.specs.AnswerChanges.{query_types}
 
@@ -69,6 +71,37 @@ abbrev pub same_answers : AnswerOf → AnswerOf → Bool
 same_answers a b =
     (rcode_number a.code == rcode_number b.code) && (if a.authoritative then b.authoritative else not b.authoritative) && pointwise same_whole a.answer b.answer
     && pointwise same_but_serial a.authority b.authority && pointwise same_whole a.additional b.additional
+
+-- ---- names at which nothing has changed
+
+-- whether the same records are at a name, and no alias
+abbrev pub same_at : List Record → List Record → Name → Bool
+same_at old new name = (length (asked_at old name (Kept types.Cname)) == 0) && pointwise same_whole (asked_at old name Any) (asked_at new name Any)
+
+-- whether neither zone has a source, or the same records are at both
+abbrev pub same_sources : List Record → List Record → Option Name → Option Name → Bool
+same_sources old new None None = true
+same_sources old new None (Some other) = false
+same_sources old new (Some source) None = false
+same_sources old new (Some source) (Some other) = same_at old new source
+
+-- whether a name exists, unless it is at or below a cut
+abbrev pub unless_cut : List Record → Name → Option Name → Bool
+unless_cut rs name None = is_there rs name
+unless_cut rs name (Some cut) = false
+
+abbrev pub is_own : Name → List Record → Name → Bool
+is_own origin rs name = unless_cut rs name (cut_over origin rs name)
+
+-- whether the SOA of negative answers is the same but for the serial
+abbrev pub same_soa : Name → List Record → List Record → Bool
+same_soa origin old new = pointwise same_but_serial (negative_soa origin old) (negative_soa origin new)
+
+-- whether nothing has changed at a name, nor for the names below it that do not exist
+abbrev pub is_unchanged : Name → List Record → List Record → Name → Bool
+is_unchanged origin old new name =
+    is_own origin old name && is_own origin new name && same_at old new name
+    && same_sources old new (if_there old (Some (asterisk ∷ name))) (if_there new (Some (asterisk ∷ name))) && same_soa origin old new
 
 -- ---- names that are known
 

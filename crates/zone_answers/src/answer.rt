@@ -69,7 +69,7 @@ fn push_answer(
 }
 
 /// Appends the SOA of a negative answer. The only error is out of memory.
-fn push_soa(alloc: Global, rows: &mut Vec<Record>, zone: &Zone) -> Result<(), AllocError>
+pub(crate) fn push_soa(alloc: Global, rows: &mut Vec<Record>, zone: &Zone) -> Result<(), AllocError>
     ensures { IfOk result (λ _. rows.new.items ≡ rows.old.items ++ negative_soa zone.now.origin (listing zone.now.records)) }
 {
     let soa = asked_at(zone, zone.origin(), QueryType::Kept(RecordType::Soa));

@@ -16,6 +16,7 @@ use crate::known_names::known_names;
 use crate::query_type::QueryType;
 use crate::rows::is_there;
 use crate::sameness::same_answers;
+use crate::unchanged::is_unchanged;
 use crate::zone_index::ZoneIndex;
 use dns_names::Name;
 use std::alloc::{AllocError, Global};
@@ -153,6 +154,24 @@ fn push_rows(
     Ok(())
 }
 
+/// Appends the rows of a known name and of those below it, unless nothing has changed there. The only error is out of memory.
+fn push_changed(
+    alloc: Global,
+    rows: &mut Vec<ChangedAnswers>,
+    old: &ZoneIndex,
+    new: &ZoneIndex,
+    name: &Name,
+) -> Result<(), AllocError>
+    requires { old.now.origin ≡ new.now.origin }
+    ensures { IfOk result (λ _. map row_of rows.new.items ≡ map row_of rows.old.items ++ rows_at old.now.origin (listing old.now.records) (listing new.now.records) name.now) }
+{
+    let unchanged = is_unchanged(alloc, old, new, name)?;
+    if unchanged {
+        return Ok(());
+    }
+    push_rows(alloc, rows, old, new, name)
+}
+
 /// The rows of known names. The only error is out of memory.
 fn rows_for(
     alloc: Global,
@@ -165,14 +184,16 @@ fn rows_for(
 {
     let mut rows = Vec::new(alloc);
     for name in names {
-        push_rows(alloc, &mut rows, old, new, name)?;
+        push_changed(alloc, &mut rows, old, new, name)?;
     }
     Ok(rows)
 }
 
 /// Which questions are answered otherwise in one zone than in another of the same origin, but for the serial of an SOA in the
-/// authority section: over all names, as groups that are answered alike, each in one row. It takes two answers for each type of
-/// question at and below each name that is known in one of the zones. The only error is out of memory.
+/// authority section: over all names, as groups that are answered alike, each in one row. It takes some look-ups for each name that is
+/// known in one of the zones, and where something has changed at it, two answers for each type of question at it and below it. An
+/// alias, a name at or below a cut, and all names where the SOA of negative answers has changed, count as changed. The only error is out
+/// of memory.
 pub fn changed_answers(
     alloc: Global,
     old: &ZoneIndex,

@@ -78,7 +78,11 @@ fn if_there(zone: &Zone, name: Option<Name>) -> Option<Name>
 }
 
 /// The wildcard below a name, if it exists. The only error is out of memory.
-fn wildcard_there(alloc: Global, zone: &Zone, encloser: &Name) -> Result<Option<Name>, AllocError>
+pub(crate) fn wildcard_there(
+    alloc: Global,
+    zone: &Zone,
+    encloser: &Name,
+) -> Result<Option<Name>, AllocError>
     ensures { IfOk result (λ found. found ≡ if_there (listing zone.now.records) (Some (asterisk ∷ encloser.now))) }
 {
     // the proof needs that all owners are names
@@ -206,7 +210,7 @@ impl ZoneIndex {
     }
 
     /// The outermost cut at or above a name.
-    fn outermost_cut(&self, name: &Name) -> Option<&Name>
+    pub(crate) fn outermost_cut(&self, name: &Name) -> Option<&Name>
         ensures { option_copied result ≡ cut_over self.now.origin (listing self.now.records) name.now }
     {
         cut_over(&self.cuts, name)

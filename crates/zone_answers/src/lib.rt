@@ -11,6 +11,7 @@ mod laws;
 mod query_type;
 mod rows;
 mod sameness;
+mod unchanged;
 mod zone_index;
 
 pub use answer::Answer;

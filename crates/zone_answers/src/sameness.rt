@@ -60,7 +60,7 @@ fn same_whole(a: &Record, b: &Record) -> bool
 }
 
 /// Whether rows agree but for the serials of SOA records.
-fn all_but_serials(a: &[Record], b: &[Record]) -> bool
+pub(crate) fn all_but_serials(a: &[Record], b: &[Record]) -> bool
     ensures { result ≡ pointwise same_but_serial a.now b.now }
 {
     match (a, b) {
@@ -73,7 +73,7 @@ fn all_but_serials(a: &[Record], b: &[Record]) -> bool
 }
 
 /// Whether rows agree.
-fn all_same(a: &[Record], b: &[Record]) -> bool
+pub(crate) fn all_same(a: &[Record], b: &[Record]) -> bool
     ensures { result ≡ pointwise same_whole a.now b.now }
 {
     match (a, b) {

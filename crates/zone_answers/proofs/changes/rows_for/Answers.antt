@@ -9,7 +9,7 @@ pub loop-name-preserved : goal.loop-name-preserved
 loop-name-preserved c =
     let here = rows_at c.args.old.now.origin (listing c.args.old.now.records) (listing c.args.new.now.records) in
     let name = c.name-item.result in
-    behind_more (flat_map here) [] c.args.names.now c.loop-name.name-index name (here name) (flat_map_push here name) c.loop-name-test.true c.name-item.is c.loop-name.invariant c.in_ok-push_rows.ensures
+    behind_more (flat_map here) [] c.args.names.now c.loop-name.name-index name (here name) (flat_map_push here name) c.loop-name-test.true c.name-item.is c.loop-name.invariant c.in_ok-push_changed.ensures
 
 pub returns : goal.returns
 returns c =
