@@ -2,8 +2,15 @@
 //! one on each line: a name, a space and a type. Lines that begin with `;` are printed as they are.
 //!
 //! Below each question stand the code of its answer, whether the server has authority (`aa`), and the records of each section.
+//!
+//! Then, after lines `!`, come changes of zones of the same origin. Below the title of each stand the names and types that are answered
+//! otherwise, and a line for each question about the labels of the case for which they disagree with the answers of the two zones.
 #![tactic(auto)]
 
+mod changes;
+mod texts;
+
+use crate::changes::print_case;
 use dns_data::{Record, RecordType};
 use dns_master::read_file;
 use dns_names::Name;
@@ -54,19 +61,23 @@ fn answer_line(rt: &HostRuntime, index: &ZoneIndex, line: &str) -> io::Result<()
     }
 }
 
-fn answer_all(rt: &HostRuntime, origin: &str, zone: &str, questions: &str) -> io::Result<()> {
-    let Ok(origin) = Name::read_absolute(rt.alloc(), origin.as_bytes()) else {
-        return println!(rt; "no name");
-    };
-    let Ok(records) = read_file(rt.alloc(), zone.as_bytes(), &origin) else {
+fn answer_all(rt: &HostRuntime, origin: &Name, zone: &str, questions: &str) -> io::Result<()> {
+    let Ok(records) = read_file(rt.alloc(), zone.as_bytes(), origin) else {
         return println!(rt; "no master file");
     };
-    let Ok(zone) = Zone::build(rt.alloc(), origin, records) else {
+    let Ok(zone) = Zone::build(rt.alloc(), origin.try_copy(rt.alloc())?, records) else {
         return println!(rt; "no zone");
     };
     let index = ZoneIndex::new(rt.alloc(), zone)?;
     for line in questions.lines() {
         answer_line(rt, &index, line)?;
+    }
+    Ok(())
+}
+
+fn print_cases(rt: &HostRuntime, origin: &Name, cases: &str) -> io::Result<()> {
+    for case in cases.split('!') {
+        print_case(rt, origin, case)?;
     }
     Ok(())
 }
@@ -77,8 +88,15 @@ fn main(rt: HostRuntime) -> io::Result<()> {
     let Some((origin, rest)) = text.split_once('\n') else {
         return println!(rt; "no origin");
     };
-    let Some((zone, questions)) = rest.split_once("\n?\n") else {
+    let Some((zone, rest)) = rest.split_once("\n?\n") else {
         return println!(rt; "no questions");
     };
-    answer_all(&rt, origin, zone, questions)
+    let Some((questions, cases)) = rest.split_once('!') else {
+        return println!(rt; "no changes");
+    };
+    let Ok(origin) = Name::read_absolute(rt.alloc(), origin.as_bytes()) else {
+        return println!(rt; "no name");
+    };
+    answer_all(&rt, &origin, zone, questions)?;
+    print_cases(&rt, &origin, cases)
 }
