@@ -1,5 +1,6 @@
 pub mod Differences
 pub mod DifferencePromises
+pub mod UpdatesInTurn
 pub mod RecordKeys
 pub mod History
 pub mod HostNames

@@ -31,7 +31,7 @@ pub use host_names::is_reverse;
 pub use large_record_sets::large_sets;
 pub use laws::{
     bringers_are_last, changes_are_undone, clean_zones_have_glue, pointers_are_one,
-    records_were_there,
+    records_were_there, updates_in_turn,
 };
 pub use name_server::{NameServer, Reaction};
 pub use pointers::reverse_pointers;
