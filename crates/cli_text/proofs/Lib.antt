@@ -20,6 +20,7 @@ pub mod FillingLemmas
 pub mod PieceLemmas
 pub mod SplitLemmas
 pub mod PartLineLemmas
+pub mod TogetherLemmas
 pub mod SplitLaws
 pub mod FewItemLaws
 pub mod SerialLaws

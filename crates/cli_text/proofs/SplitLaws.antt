@@ -7,17 +7,24 @@ use Rattle.std.proofs.lemmas.List.{map-append}
 use Rattle.std.proofs.lemmas.List.FromFn.{length-map-range_with_len}
 use Rattle.std.proofs.lemmas.List.Sorted.{IsPermutation-append, IsPermutation-cons, IsPermutation-filter_both, IsPermutation-middle, IsPermutation-refl, IsPermutation-sym, IsPermutation-trans}
 use Rattle.dns_names.specs.Order.{same_name}
+use Rattle.dns_data.specs.declared.record_type.RecordType.TheVariants as types
+use Rattle.dns_data.specs.declared.rdata.Data.{Data}
+use Rattle.dns_data.specs.declared.rdata.Data.TheVariants as variants
+use Rattle.dns_data.specs.Rdata.{type_of}
 use Rattle.zone_core.specs.declared.update.Prerequisite.{Prerequisite}
+use Rattle.zone_core.specs.declared.update.Prerequisite.TheVariants.{RrsetExists, RrsetEquals, RrsetAbsent, NameUsed, NameUnused}
 use Rattle.zone_core.specs.declared.update.Operation.{Operation}
 use Rattle.zone_core.specs.Updates.{UpdateOf, acted_name, tested_name}
 use Rattle.zone_core.proofs.SetLemmas.{by_cases, name_self}
 use Rattle.update_lines.specs.Reading.{behind, no_items}
 use Rattle.cli_text.specs.Octets.{bare_length, capped, sum_up}
-use Rattle.cli_text.specs.Slots.{acted_names, acted_place, first_at, in_places, is_place, placed_at, tested_names, tested_place, tests_soa, unplaced}
+use Rattle.cli_text.specs.Slots.{acted_names, acted_place, first_at, in_places, is_place, is_soa_data, placed_at, tested_names, tested_place, tests_soa, unplaced}
 use Rattle.cli_text.specs.Filling.{PieceOf, filled, has_room, takes}
 use Rattle.cli_text.specs.Pieces.{guarded_piece, operation_pieces, pieces_of, split_of, tests_piece}
 use Rattle.cli_text.proofs.SlotLemmas.{acted_inside, length-map, tested_inside}
-use Rattle.cli_text.specs.SplitPromises.{AreTestedFirst, IsBefore, SplitsArePartsOf}
+use Rattle.cli_text.specs.SplitPromises.{SplitsArePartsOf}
+use Rattle.zone_tools.specs.UpdatesInTurn.{AreTestedFirst, LeaveTested, TestsSoaData}
+use Rattle.cli_text.proofs.TogetherLemmas.{split_together}
 
 -- ---- lists
 
@@ -37,9 +44,9 @@ all_map : {X : Type 0} (P Q : X → Type 0) (xs : List X) → ((x : X) → P x �
 all_map P Q [] f all = tt
 all_map P Q (x ∷ xs) f all = (f x all.0, all_map P Q xs f all.1)
 
-all_none : (tests : List Prerequisite) → AllByRecursion (IsBefore []) tests
+all_none : (tests : List Prerequisite) → AllByRecursion (LeaveTested []) tests
 all_none [] = tt
-all_none (p ∷ tests) = (tt, all_none tests)
+all_none (p ∷ tests) = ((tt, λ soa. refl), all_none tests)
 
 -- ---- filling loses nothing
 
@@ -230,21 +237,42 @@ differ : (q : List (List ℕ)) (ops : List Operation) → AllByRecursion (λ n. 
 differ q [] all = tt
 differ q (op ∷ ops) all = ((λ e. true≢false (sym (name_self q) ∙ subst (λ n. same_name n q ≡ false) e all.0)), differ q ops all.1)
 
-untouched : (done rest : List Operation) (p : Prerequisite) → acted_place (done ++ rest) p ≡ Some (length done) → IsBefore done p
+soa_data : (d : Data) → type_of d ≡ types.Soa → is_soa_data d ≡ true
+soa_data (variants.Soa soa) e = refl
+soa_data d e = absurd cc
+
+soa_tested : (p : Prerequisite) → TestsSoaData p → tests_soa p ≡ true
+soa_tested (RrsetExists name t) soa = absurd soa
+soa_tested (RrsetEquals name rdata) soa = soa_data rdata soa
+soa_tested (RrsetAbsent name t) soa = absurd soa
+soa_tested (NameUsed name) soa = absurd soa
+soa_tested (NameUnused name) soa = absurd soa
+
+untouched : (done rest : List Operation) (p : Prerequisite) → acted_place (done ++ rest) p ≡ Some (length done) → LeaveTested done p
 untouched done rest p e =
     by_cases (tests_soa p) _ (λ y. let none : None ≡ Some (length done) = rw y at e in absurd cc)
     (λ n. let at : first_at (acted_names (done ++ rest)) (tested_name p) ≡ Some (length done) = rw n at e in
     let split : first_at (acted_names done ++ acted_names rest) (tested_name p) ≡ Some (length done) =
     subst (λ names. first_at names (tested_name p) ≡ Some (length done)) (map-append acted_name done rest) at in
     let plain : length (acted_names done) ≡ 0 + length (acted_names done) = omega arith in
-    let count : length done ≡ 0 + length (acted_names done) = sym (length-map acted_name done) ∙ plain in
-    differ (tested_name p) done (before_first (λ m. same_name m (tested_name p)) 0 (acted_names done) (acted_names rest) (split ∙ ap Some count)))
+    let count : length done ≡ 0 + length (acted_names done) = sym (length-map acted_name done) ∙ plain in (
+      differ (tested_name p) done (before_first (λ m. same_name m (tested_name p)) 0 (acted_names done) (acted_names rest) (split ∙ ap Some count)),
+      λ soa. absurd (true≢false (sym (soa_tested p soa) ∙ n)),
+    ))
+
+-- what operations leave, those at their front do
+front_leaves : (done more : List Operation) (p : Prerequisite) → LeaveTested (done ++ more) p → LeaveTested done p
+front_leaves done more p left = (all_front (λ op. acted_name op ≢ tested_name p) done more left.0, λ soa. none_before done (left.1 soa))
+  where
+    none_before : (done : List Operation) → done ++ more ≡ [] → done ≡ []
+    none_before [] e = refl
+    none_before (op ∷ done) e = absurd cc
 
 pub is_at : (k : ℕ) (o : Option ℕ) → is_place k o ≡ true → o ≡ Some k
 is_at k None e = absurd cc
 is_at k (Some i) e = ap Some (eqb-true i k e)
 
-all_untouched : (done rest : List Operation) (tests : List Prerequisite) → AllByRecursion (IsBefore done) (placed_at (acted_place (done ++ rest)) tests (length done))
+all_untouched : (done rest : List Operation) (tests : List Prerequisite) → AllByRecursion (LeaveTested done) (placed_at (acted_place (done ++ rest)) tests (length done))
 all_untouched done rest [] = tt
 all_untouched done rest (p ∷ tests) =
     by_cases (is_place (length done) (acted_place (done ++ rest) p)) _
@@ -258,7 +286,7 @@ bare_first [] id more first = first
 bare_first (slot ∷ slots) id more first = (all_none slot, bare_first slots id more first)
 
 -- one operation more, with its prerequisites beside it or before it
-one_more : (id : List ℕ) (frame : ℕ) (done : List Operation) (slot : List Prerequisite) (op : Operation) (more : List PieceOf) → AllByRecursion (IsBefore done) slot
+one_more : (id : List ℕ) (frame : ℕ) (done : List Operation) (slot : List Prerequisite) (op : Operation) (more : List PieceOf) → AllByRecursion (LeaveTested done) slot
     → AreTestedFirst (done ++ op ∷ []) (map (λ q. q.items) more) → AreTestedFirst done (map (λ q. q.items) (operation_pieces id frame (slot, op) ++ more))
 one_more id frame done slot op more all first =
     by_cases (has_room frame no_items (guarded_piece id slot op)) _ (λ t. rw t (all, first))
@@ -270,22 +298,22 @@ pieces_first id frame tests ops done [] whole n count = tt
 pieces_first id frame tests ops done (op ∷ rest) whole n count =
     let slot = placed_at (acted_place ops) tests n in
     let more = flat_map (operation_pieces id frame) (zip (map (placed_at (acted_place ops) tests) (range_with_len (n + 1) (length rest))) rest) in
-    let here : AllByRecursion (IsBefore done) slot =
-    subst (λ l. AllByRecursion (IsBefore done) (placed_at (acted_place l) tests n)) whole
-    (subst (λ m. AllByRecursion (IsBefore done) (placed_at (acted_place (done ++ op ∷ rest)) tests m)) count (all_untouched done (op ∷ rest) tests)) in
+    let here : AllByRecursion (LeaveTested done) slot =
+    subst (λ l. AllByRecursion (LeaveTested done) (placed_at (acted_place l) tests n)) whole
+    (subst (λ m. AllByRecursion (LeaveTested done) (placed_at (acted_place (done ++ op ∷ rest)) tests m)) count (all_untouched done (op ∷ rest) tests)) in
     let long : length (done ++ op ∷ []) ≡ n + 1 = length-append done (op ∷ []) ∙ ap (λ m. m + 1) count in
     one_more id frame done slot op more here
     (pieces_first id frame tests ops (done ++ op ∷ []) rest (append_assoc done (op ∷ []) rest ∙ whole) (n + 1) long)
 
 -- filled, they are so still
-joined_first : (frame n : ℕ) (done : List Operation) (u : UpdateOf) (ps : List PieceOf) → AllByRecursion (IsBefore done) u.prerequisites
+joined_first : (frame n : ℕ) (done : List Operation) (u : UpdateOf) (ps : List PieceOf) → AllByRecursion (LeaveTested done) u.prerequisites
     → AreTestedFirst (done ++ u.operations) (map (λ q. q.items) ps) → AreTestedFirst done (filled frame n u ps)
 joined_first frame n done u [] all first = (all, tt)
 joined_first frame n done u (p ∷ ps) all first =
     by_cases (takes n u p) _
     (λ t. rw t (joined_first frame (sum_up n p.octets) done (behind u p.items) ps
-    (all_append (IsBefore done) u.prerequisites p.items.prerequisites all
-    (all_map (IsBefore (done ++ u.operations)) (IsBefore done) p.items.prerequisites (λ q before. all_front (λ op. acted_name op ≢ tested_name q) done u.operations before) first.0))
+    (all_append (LeaveTested done) u.prerequisites p.items.prerequisites all
+    (all_map (LeaveTested (done ++ u.operations)) (LeaveTested done) p.items.prerequisites (front_leaves done u.operations) first.0))
     (subst (λ ops. AreTestedFirst ops (map (λ (q : PieceOf). q.items) ps)) (append_assoc done u.operations p.items.operations) first.1)))
     (λ f. rw f (all, joined_first frame (sum_up frame p.octets) (done ++ u.operations) p.items ps first.0 first.1))
 
@@ -331,4 +359,5 @@ splits_are_parts id tests ops = record {
   in_order = split_operations id tests ops;
   once = subst (IsPermutation tests) (sym (split_tests id tests ops)) (once tests ops);
   first = split_first id tests ops;
+  together = split_together id tests ops;
 }

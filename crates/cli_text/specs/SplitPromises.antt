@@ -1,29 +1,22 @@
 -- What the parts of an update have of it.
-use Rattle.std.specs.Prelude.{◌≡◌, ◌≢◌, ℕ, ◌^◌, ◌<◌, ◌≤◌, length, List, [], ◌∷◌, ◌++◌}
-use Rattle.std.specs.List.{AllByRecursion, filter, flat_map}
+use Rattle.std.specs.Prelude.{◌≡◌, ℕ, ◌^◌, ◌<◌, ◌≤◌, length, List, []}
+use Rattle.std.specs.List.{AllByRecursion, filter}
 use Rattle.std.specs.List.Sorted.{IsPermutation}
 use Rattle.dns_names.specs.Order.{same_name}
 use Rattle.zone_core.specs.declared.update.Prerequisite.{Prerequisite}
 use Rattle.zone_core.specs.declared.update.Operation.{Operation}
 use Rattle.zone_core.specs.Serials.{IsLess, serial_sum}
-use Rattle.zone_core.specs.Updates.{UpdateOf, acted_name, tested_name}
+use Rattle.zone_core.specs.Updates.{UpdateOf, tested_name}
+use Rattle.zone_tools.specs.UpdatesInTurn.{operations_of, prerequisites_of, AreTestedFirst, HasWholeSets}
 use Rattle.cli_text.specs.Pieces.{split_of}
 
--- no operation is at the name of a prerequisite
-abbrev pub IsBefore : List Operation → Prerequisite → Type 0
-IsBefore operations p = AllByRecursion (λ op. acted_name op ≢ tested_name p) operations
-
--- no operation is at the name of a prerequisite of a later part, whether it is one of these or of a part before
-abbrev pub AreTestedFirst : List Operation → List UpdateOf → Type 0
-AreTestedFirst operations [] = Unit {0}
-AreTestedFirst operations (u ∷ us) = AllByRecursion (IsBefore operations) u.prerequisites × AreTestedFirst (operations ++ u.operations) us
-
--- The parts have the operations in their order, and each prerequisite once; and no part before that of a prerequisite has an operation at
--- its name.
+-- The parts have the operations in their order, and each prerequisite once. No part before that of a prerequisite has an operation at its
+-- name, or any at all if the data of an SOA are tested; and the prerequisites of a record set are in one part.
 pub record IsSplit (tests : List Prerequisite) (operations : List Operation) (parts : List UpdateOf) : Type 0 where
-  pub in_order : flat_map (λ u. u.operations) parts ≡ operations
-  pub once : IsPermutation tests (flat_map (λ u. u.prerequisites) parts)
+  pub in_order : operations_of parts ≡ operations
+  pub once : IsPermutation tests (prerequisites_of parts)
   pub first : AreTestedFirst [] parts
+  pub together : AllByRecursion (HasWholeSets tests) parts
 
 abbrev pub SplitsArePartsOf : Type 0
 SplitsArePartsOf = (id : List ℕ) (tests : List Prerequisite) (operations : List Operation) → IsSplit tests operations (split_of id tests operations)

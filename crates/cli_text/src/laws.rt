@@ -52,9 +52,10 @@ pub fn guards_test_sets()
     ensures soa { NoSoaIsTestedFor }
 {}
 
-/// The parts of an update have its operations in their order and each of its prerequisites once, and no part before that of a prerequisite
-/// has an operation at its name. If there are at most 64 prerequisites at each name, no part has more items than an update may have. A
-/// serial that is greater than another stays so if both are advanced as often.
+/// The parts of an update have its operations in their order and each of its prerequisites once, those of a record set in one part. No part
+/// before that of a prerequisite has an operation at its name, or any if it tests the data of an SOA. If there are at most 64
+/// prerequisites at each name, no part has more items than an update may have. A serial that is greater than another stays so if both are
+/// advanced as often.
 pub fn splits_are_parts()
     ensures parts { SplitsArePartsOf }
     ensures few { SplitsHaveFewItems }
