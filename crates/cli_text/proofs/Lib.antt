@@ -22,5 +22,6 @@ pub mod SplitLemmas
 pub mod PartLineLemmas
 pub mod TogetherLemmas
 pub mod SplitLaws
+pub mod SplitEffectLaws
 pub mod FewItemLaws
 pub mod SerialLaws

@@ -30,4 +30,5 @@ pub mod Pieces
 pub mod Split
 pub mod PartLines
 pub mod SplitPromises
+pub mod SplitEffects
 pub mod Plan

@@ -6,6 +6,7 @@ ghost use Rattle.cli_text.specs.Diff.{DiffsLead, DiffsAreMet, DiffsTell, Operati
 ghost use Rattle.cli_text.specs.OriginLists.{ListsAreRead};
 ghost use Rattle.cli_text.specs.Parts.{Parts, IsDivided, divided};
 ghost use Rattle.cli_text.specs.SplitPromises.{SplitsArePartsOf, SplitsHaveFewItems, AdvancesKeepOrder};
+ghost use Rattle.cli_text.specs.SplitEffects.{SplitsDoTheSame};
 
 /// A text is parted at its first line that is a divider, and at no other place.
 pub fn text_is_divided()
@@ -60,4 +61,11 @@ pub fn splits_are_parts()
     ensures parts { SplitsArePartsOf }
     ensures few { SplitsHaveFewItems }
     ensures serials { AdvancesKeepOrder }
+{}
+
+/// The updates that are printed of the parts of an update, made in order while nobody else changes the zone, do what that does: all are
+/// made exactly where it is, and the zone has the same records after them, the SOA aside. If no operation adds an SOA, the SOA is the
+/// same too but for its serial; and so it is if one does, and each part before it changes the zone.
+pub fn splits_make_the_update()
+    ensures { SplitsDoTheSame }
 {}

@@ -49,7 +49,7 @@ pub use expect::do_expect;
 pub use expect_fault::ExpectFault;
 pub use laws::{
     diffs_are_guarded, diffs_lead, guards_test_sets, lists_are_read, splits_are_parts,
-    text_is_divided, zones_are_read_again,
+    splits_make_the_update, text_is_divided, zones_are_read_again,
 };
 pub use plan::{do_plan, push_signed};
 pub use plan_fault::PlanFault;
