@@ -64,14 +64,17 @@ sum_fits s n = grind arith
 pub sum_none : (s : ℕ) → s < 2 ^ 32 → serial_sum s 0 ≡ s
 sum_none s fits = grind arith
 
--- a number that wraps, and then goes one further
-one_on : (m q a p b : ℕ) → m ≡ q * 4294967296 + a → a < 4294967296 → a + 1 ≡ p * 4294967296 + b → b < 4294967296 → (c d : ℕ) → m + 1 ≡ d * 4294967296 + c → c < 4294967296 → b ≡ c
-one_on m q a p b e la f lb c d g lc = omega (arith, e, la, f, lb, g, lc)
+-- a number that wraps, and then goes further
+one_on : (m k q a p b : ℕ) → m ≡ q * 4294967296 + a → a < 4294967296 → a + k ≡ p * 4294967296 + b → b < 4294967296 → (c d : ℕ) → m + k ≡ d * 4294967296 + c → c < 4294967296 → b ≡ c
+one_on m k q a p b e la f lb c d g lc = omega (arith, e, la, f, lb, g, lc)
+
+pub sum_twice : (s n m : ℕ) → serial_sum (serial_sum s n) m ≡ serial_sum s (n + m)
+sum_twice s n m =
+    one_on (s + n) m ((s + n) / 4294967296) (serial_sum s n) ((serial_sum s n + m) / 4294967296) (serial_sum (serial_sum s n) m) (grind arith) (grind arith) (grind arith) (grind arith)
+    (serial_sum s (n + m)) ((s + (n + m)) / 4294967296) (grind arith) (grind arith)
 
 pub sum_more : (s n : ℕ) → serial_sum (serial_sum s n) 1 ≡ serial_sum s (n + 1)
-sum_more s n =
-    one_on (s + n) ((s + n) / 4294967296) (serial_sum s n) ((serial_sum s n + 1) / 4294967296) (serial_sum (serial_sum s n) 1) (grind arith) (grind arith) (grind arith) (grind arith)
-    (serial_sum s (n + 1)) ((s + (n + 1)) / 4294967296) (grind arith) (grind arith)
+sum_more s n = sum_twice s n 1
 
 -- ---- operations
 

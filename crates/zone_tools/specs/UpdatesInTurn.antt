@@ -1,5 +1,5 @@
 -- What updates come to that are made in turn, nobody else changing the zone between, beside one update that has all their operations.
-use Rattle.std.specs.Prelude.{◌≡◌, ◌≢◌, ◌↔◌, ◌⊎◌, ℕ, ◌+◌, ◌≤◌, List, [], ◌∷◌, ◌++◌, length, map, Bool, true, false, not, None}
+use Rattle.std.specs.Prelude.{◌≡◌, ◌≢◌, ◌↔◌, ◌⊎◌, ℕ, ◌+◌, ◌<◌, ◌≤◌, List, [], ◌∷◌, ◌++◌, length, map, Bool, true, false, not, None}
 use Rattle.std.specs.List.{AllByRecursion, filter, flat_map, list_any}
 use Rattle.std.specs.List.Sorted.{IsPermutation}
 use Rattle.std.specs.FinMap.{get}
@@ -10,9 +10,9 @@ use Rattle.zone_core.specs.declared.update.Prerequisite.{Prerequisite}
 use Rattle.zone_core.specs.declared.update.Prerequisite.TheVariants.{RrsetEquals}
 use Rattle.zone_core.specs.declared.update.Operation.{Operation}
 use Rattle.zone_core.specs.declared.update.Operation.TheVariants.{Add}
-use Rattle.zone_core.specs.Serials.{serial_sum}
-use Rattle.zone_core.specs.Sets.{Key}
-use Rattle.zone_core.specs.Zones.{ZoneOf, IsZone, is_soa, serial_in}
+use Rattle.zone_core.specs.Serials.{IsLess, serial_sum}
+use Rattle.zone_core.specs.Sets.{Key, key_of}
+use Rattle.zone_core.specs.Zones.{ZoneOf, IsZone, is_soa, serial_in, serial_of}
 use Rattle.zone_core.specs.Updates.{UpdateOf, tested_name, acted_name, adds_soa}
 use Rattle.zone_core.specs.Prerequisites.{given_for, verdict}
 use Rattle.zone_core.specs.Effects.{zone_after}
@@ -88,6 +88,20 @@ abbrev pub PartsTakeTheSoa : Type 0
 PartsTakeTheSoa =
     (zone : ZoneOf) (parts : List UpdateOf) (whole : UpdateOf) → IsZone zone → AreWithin zone.origin whole.operations
     → operations_of parts ≡ whole.operations → length (filter adds_soa whole.operations) ≤ 1 → ChangeBeforeSoa zone (further_in_turn 0 parts)
+    → SameButSerial (zone_after_parts zone (further_in_turn 0 parts)) (zone_after zone whole)
+
+-- if an operation adds an SOA, the serial of this is greater than another, also where it goes further by less than so much (RFC 1982)
+abbrev pub StaysNewer : ℕ → ℕ → Operation → Type 0
+StaysNewer most serial (Add r) = is_soa (key_of r) ≡ true → (n : ℕ) → n < most → IsLess serial (serial_sum (serial_in r) n)
+StaysNewer most serial op = Unit {0}
+
+-- They make it too, whichever of them change the zone, if the serial of that SOA is greater than the zone's, also where it goes further by
+-- less than there are updates: the SOA is taken by both.
+abbrev pub PartsTakeANewerSoa : Type 0
+PartsTakeANewerSoa =
+    (zone : ZoneOf) (parts : List UpdateOf) (whole : UpdateOf) → IsZone zone → AreWithin zone.origin whole.operations
+    → operations_of parts ≡ whole.operations → length (filter adds_soa whole.operations) ≤ 1
+    → AllByRecursion (StaysNewer (length parts) (serial_of zone)) whole.operations
     → SameButSerial (zone_after_parts zone (further_in_turn 0 parts)) (zone_after zone whole)
 
 -- ---- what they test

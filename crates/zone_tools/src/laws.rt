@@ -3,7 +3,7 @@
 ghost use Rattle.zone_tools.specs.History.{ChangesAreUndone, RecordsWereThere, BringersAreLast};
 ghost use Rattle.zone_tools.specs.Pointers.{PointersAreOne};
 ghost use Rattle.zone_tools.specs.ZoneFindings.{CleanZonesHaveGlue};
-ghost use Rattle.zone_tools.specs.UpdatesInTurn.{PartsMakeTheRecords, PartsMakeTheZone, PartsTakeTheSoa, VerdictsStay, PartsAreMet};
+ghost use Rattle.zone_tools.specs.UpdatesInTurn.{PartsMakeTheRecords, PartsMakeTheZone, PartsTakeTheSoa, PartsTakeANewerSoa, VerdictsStay, PartsAreMet};
 
 /// The number of the change that brought a record is that of the last change that has the record among those that come.
 pub fn bringers_are_last()
@@ -33,8 +33,9 @@ pub fn records_were_there()
 /// Updates made in turn, with the operations of one update in their order, make what that makes, if nobody else changes the zone between:
 /// the same records, whatever SOA they add; and if no operation adds an SOA, the same SOA but for its serial. An SOA that is added is
 /// compared with that of the zone at that moment (RFC 2136 section 3.4.2.2), whose serial each update before has advanced that changed
-/// anything. So if its serial is further by one for each update before, and each of these changes the zone, both take it or neither
-/// does, and the zones are the same but for the serial; otherwise one may take it, and the other not.
+/// anything. If its own serial is further by one for each update before, the zones are the same but for the serial in two cases: each of
+/// these updates changes the zone, and then both take the SOA or neither does; or its serial is greater than the zone's, however many of
+/// these advance it, and then both take it. Otherwise one may take it, and the other not.
 ///
 /// After updates without an operation at the name of a prerequisite it is met exactly where it is before; but if it tests the data of
 /// an SOA, they may have no operation at all, since a change advances the serial. So if each prerequisite of an update comes after such
@@ -43,6 +44,7 @@ pub fn updates_in_turn()
     ensures records { PartsMakeTheRecords }
     ensures zone { PartsMakeTheZone }
     ensures soa { PartsTakeTheSoa }
+    ensures newer { PartsTakeANewerSoa }
     ensures stay { VerdictsStay }
     ensures met { PartsAreMet }
 {}
