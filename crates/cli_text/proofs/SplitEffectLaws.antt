@@ -1,5 +1,5 @@
 -- What the parts of an update come to.
-use Rattle.std.proofs.Common.{◌≡◌, ◌≢◌, ◌∙◌, ℕ, ◌+◌, ◌≤◌, ◌^◌, List, [], ◌∷◌, ◌++◌, length, map, Bool, true, false, ◌||◌, min, nat_lt, if◌then◌else◌, Ok, Err, arith, refl, sym, ap, ap₂, subst}
+use Rattle.std.proofs.Common.{◌≡◌, ◌≢◌, ◌∙◌, inl, inr, ℕ, suc, ◌+◌, ◌≤◌, ◌^◌, List, [], ◌∷◌, ◌++◌, length, map, Bool, true, false, ◌||◌, min, nat_lt, if◌then◌else◌, Ok, Err, arith, refl, sym, ap, ap₂, subst}
 use Rattle.std.specs.List.{AllByRecursion, filter}
 use Rattle.std.specs.List.Sorted.{IsPermutation}
 use Rattle.std.specs.Option.{option_map_or}
@@ -12,15 +12,15 @@ use Rattle.zone_core.specs.declared.update.Operation.{Operation}
 use Rattle.zone_core.specs.declared.update.Operation.TheVariants.{Add, DeleteRrset, DeleteName, DeleteRecord}
 use Rattle.zone_core.specs.declared.faults.UpdateFault.TheVariants.{TooManyItems, TwoSoa}
 use Rattle.zone_core.specs.Serials.{serial_sum}
-use Rattle.zone_core.specs.Zones.{soa_in}
+use Rattle.zone_core.specs.Zones.{serial_of, soa_in}
 use Rattle.zone_core.specs.Updates.{UpdateOf, IsOperation, acted_name, adds_soa, tested_name}
 use Rattle.zone_tools.specs.Differences.{data_at}
 use Rattle.zone_tools.specs.DifferencePromises.{AreWithin}
-use Rattle.zone_tools.specs.UpdatesInTurn.{operations_of, prerequisites_of, adds_no_soa, zone_after_parts, SameButSerial, further, further_in_turn, ChangeBeforeSoa, LeaveTested, AreTestedFirst, HasWholeSets}
+use Rattle.zone_tools.specs.UpdatesInTurn.{operations_of, prerequisites_of, adds_no_soa, zone_after_parts, SameButSerial, further, further_in_turn, ChangeBeforeSoa, StaysNewer, LeaveTested, AreTestedFirst, HasWholeSets}
 use Rattle.zone_core.specs.Effects.{zone_after}
 use Rattle.zone_tools.proofs.InTurnLemmas.{all_front, all_back, all_join, parts_make_the_records, parts_make_the_zone}
 use Rattle.zone_tools.proofs.FurtherLemmas.{names_stay, within_stays, others_stay, all_stay, filter-append}
-use Rattle.zone_tools.proofs.SoaInTurnLemmas.{parts_take_the_soa}
+use Rattle.zone_tools.proofs.SoaInTurnLemmas.{parts_take_the_soa, parts_take_a_newer_soa}
 use Rattle.zone_tools.proofs.TestedInTurnLemmas.{parts_are_met}
 use Rattle.update_lines.specs.ItemFaults.{of_updates}
 use Rattle.cli_core.specs.LineFaults.{of_items}
@@ -78,6 +78,10 @@ all_counted before [] few = refl
 all_counted before (u ∷ us) few =
     let same : min before 2147483647 ≡ before = grind (arith, few) in
     ap₂ (λ x xs. x ∷ xs) (ap (λ n. further_part n u) same) (all_counted (before + 1) us (omega (arith, few)))
+
+same_count : (before : ℕ) (us : List UpdateOf) → length (part_updates before us) ≡ length us
+same_count before [] = refl
+same_count before (u ∷ us) = ap suc (same_count (before + 1) us)
 
 from_none : (n most : ℕ) → n ≤ most → 0 + n ≤ most
 from_none n most few = omega (arith, few)
@@ -155,8 +159,12 @@ splits_do_the_same id tests ops updates zone are z within =
           (first_same 0 parts [] [] refl split.first) (together_same tests 0 parts split.together);
       bare = λ plain. parts_make_the_zone zone (part_updates 0 parts) whole z within
           (all_same 0 parts (subst (AllByRecursion (λ op. adds_soa op ≡ false)) (sym split.in_order) plain) ∙ split.in_order) plain;
-      taken = λ one few changes.
+      soa = λ one few cases.
           let counted = all_counted 0 parts (from_none (length (part_updates 0 parts)) (2 ^ 31) few) in
           subst (λ us. SameButSerial (zone_after_parts zone us) (zone_after zone whole)) (sym counted)
-          (parts_take_the_soa zone parts whole z within split.in_order one (subst (ChangeBeforeSoa zone) counted changes));
+          (elim cases [
+            | inl changes ↦ parts_take_the_soa zone parts whole z within split.in_order one (subst (ChangeBeforeSoa zone) counted changes)
+            | inr newer ↦ parts_take_a_newer_soa zone parts whole z within split.in_order one
+                (subst (λ n. AllByRecursion (StaysNewer n (serial_of zone)) ops) (same_count 0 parts) newer)
+          ]);
     })

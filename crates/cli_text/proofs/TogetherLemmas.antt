@@ -20,6 +20,7 @@ use Rattle.zone_core.specs.Prerequisites.{given_for}
 use Rattle.zone_core.proofs.SetLemmas.{by_cases, name_is}
 use Rattle.zone_core.proofs.ZoneLemmas.{no}
 use Rattle.zone_tools.specs.UpdatesInTurn.{HasWholeSets}
+use Rattle.zone_tools.proofs.InTurnLemmas.{all_join}
 use Rattle.update_lines.specs.Reading.{behind, no_items}
 use Rattle.cli_text.specs.Octets.{bare_length, capped, sum_up}
 use Rattle.cli_text.specs.Slots.{acted_names, acted_place, first_at, in_places, is_place, is_soa_data, placed_at, tested_names, tested_place, unplaced}
@@ -38,14 +39,10 @@ module _ {Y : Type 0} (whole : List Y) where
   none_at_most [] all = tt
   none_at_most (x ∷ xs) all = inl (all.0, none_at_most xs all.1)
 
-  all_join : (xs ys : List (List Y)) → AllByRecursion (λ y. y ≡ []) xs → AllByRecursion (λ y. y ≡ []) ys → AllByRecursion (λ y. y ≡ []) (xs ++ ys)
-  all_join [] ys all more = more
-  all_join (x ∷ xs) ys all more = (all.0, all_join xs ys all.1 more)
-
   one_before : (xs ys : List (List Y)) → AtMostOne xs → AllByRecursion (λ y. y ≡ []) ys → AtMostOne (xs ++ ys)
   one_before [] ys one none = none_at_most ys none
   one_before (x ∷ xs) ys (inl here) none = inl (here.0, one_before xs ys here.1 none)
-  one_before (x ∷ xs) ys (inr here) none = inr (here.0, all_join xs ys here.1 none)
+  one_before (x ∷ xs) ys (inr here) none = inr (here.0, all_join (λ y. y ≡ []) xs ys here.1 none)
 
   one_behind : (xs ys : List (List Y)) → AllByRecursion (λ y. y ≡ []) xs → AtMostOne ys → AtMostOne (xs ++ ys)
   one_behind [] ys none one = one

@@ -65,7 +65,8 @@ pub fn splits_are_parts()
 
 /// The updates that are printed of the parts of an update, made in order while nobody else changes the zone, do what that does: all are
 /// made exactly where it is, and the zone has the same records after them, the SOA aside. If no operation adds an SOA, the SOA is the
-/// same too but for its serial; and so it is if one does, and each part before it changes the zone.
+/// same too but for its serial. So it is if one does, where each part before it changes the zone, or where its serial is greater than the
+/// zone's, also further by less than there are parts; otherwise the one may take the SOA, and the other not.
 pub fn splits_make_the_update()
     ensures { SplitsDoTheSame }
 {}
