@@ -5,5 +5,6 @@ pub mod PlainLemmas
 pub mod MisuseLemmas
 pub mod DeviceLemmas
 pub mod JobLemmas
+pub mod DiffWordLemmas
 pub mod SendLemmas
 pub mod StepLemmas

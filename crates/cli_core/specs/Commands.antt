@@ -51,6 +51,7 @@ argument_row argument.Warn = (codes "warn", Flag)
 argument_row argument.Json = (codes "json", Flag)
 argument_row argument.Guard = (codes "guard", Flag)
 argument_row argument.GuardSets = (codes "guard-sets", Flag)
+argument_row argument.Answers = (codes "answers", Flag)
 argument_row argument.Old = (codes "old", Place)
 argument_row argument.New = (codes "new", Place)
 argument_row argument.Id = (codes "id", Optional)
@@ -74,7 +75,7 @@ argument_form a = (argument_row a).1
 abbrev pub command_row : Command → Text × List Argument
 command_row command.Apply = (codes "apply", [])
 command_row command.Canon = (codes "canon", argument.Origin ∷ argument.Relative ∷ [])
-command_row command.Diff = (codes "diff", argument.Origin ∷ argument.Guard ∷ argument.GuardSets ∷ argument.Old ∷ argument.New ∷ [])
+command_row command.Diff = (codes "diff", argument.Origin ∷ argument.Guard ∷ argument.GuardSets ∷ argument.Answers ∷ argument.Old ∷ argument.New ∷ [])
 command_row command.Request = (codes "request", argument.Id ∷ argument.Split ∷ [])
 command_row command.Import = (codes "import", argument.Store ∷ argument.ImportedOrigin ∷ argument.List ∷ argument.Replace ∷ [])
 command_row command.Export = (codes "export", argument.Store ∷ argument.Origin ∷ argument.At ∷ argument.Relative ∷ [])
@@ -85,7 +86,7 @@ command_row command.Undo = (codes "undo", argument.Store ∷ argument.Origin ∷
 command_row command.Migrate = (codes "migrate", argument.Store ∷ [])
 command_row command.Rights =
     (codes "rights", argument.Policy ∷ argument.Caller ∷ argument.Name ∷ argument.Type ∷ argument.Action ∷ [])
-command_row command.Plan = (codes "plan", argument.Policy ∷ argument.Caller ∷ [])
+command_row command.Plan = (codes "plan", argument.Policy ∷ argument.Caller ∷ argument.Answers ∷ [])
 command_row command.Serve =
     (codes "serve", argument.Store ∷ argument.Policy ∷ argument.Listen ∷ argument.Connections ∷ argument.Patience ∷ argument.Longest ∷ argument.Memory ∷ [])
 command_row command.Check =

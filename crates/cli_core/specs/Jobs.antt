@@ -12,7 +12,10 @@ use Rattle.cli_core.specs.declared.job.Existing.TheVariants.{Kept, Replaced}
 use Rattle.cli_core.specs.declared.job.TextForm.{TextForm}
 use Rattle.cli_core.specs.declared.job.TextForm.TheVariants.{Plain, Json}
 use Rattle.cli_core.specs.declared.job.DiffForm.{DiffForm}
-use Rattle.cli_core.specs.declared.job.DiffForm.TheVariants.{Bare, Guarded}
+use Rattle.cli_core.specs.declared.job.DiffForm.TheVariants.{Items, Answers}
+use Rattle.cli_core.specs.declared.job.ItemForm.TheVariants.{Bare, Guarded}
+use Rattle.cli_core.specs.declared.job.PlanForm.{PlanForm}
+use Rattle.cli_core.specs.declared.job.PlanForm.TheVariants as plan_form
 use Rattle.cli_core.specs.declared.job.GuardScope.TheVariants.{Names, Sets}
 use Rattle.cli_core.specs.declared.job.ZoneForm.{ZoneForm}
 use Rattle.cli_core.specs.declared.job.ZoneForm.TheVariants.{Whole, Relative}
@@ -42,21 +45,32 @@ is_relative Whole = false
 is_relative Relative = true
 
 abbrev pub is_guarded : DiffForm → Bool
-is_guarded Bare = false
-is_guarded (Guarded Names) = true
-is_guarded (Guarded Sets) = false
+is_guarded (Items Bare) = false
+is_guarded (Items (Guarded Names)) = true
+is_guarded (Items (Guarded Sets)) = false
+is_guarded Answers = false
 
 abbrev pub is_guarded_by_sets : DiffForm → Bool
-is_guarded_by_sets Bare = false
-is_guarded_by_sets (Guarded Names) = false
-is_guarded_by_sets (Guarded Sets) = true
+is_guarded_by_sets (Items Bare) = false
+is_guarded_by_sets (Items (Guarded Names)) = false
+is_guarded_by_sets (Items (Guarded Sets)) = true
+is_guarded_by_sets Answers = false
 
--- the form of two flags, of which only one is given
-abbrev pub form_by : Bool → Bool → Option DiffForm
-form_by false false = Some Bare
-form_by true false = Some (Guarded Names)
-form_by false true = Some (Guarded Sets)
-form_by true true = None
+abbrev pub is_of_answers : DiffForm → Bool
+is_of_answers (Items form) = false
+is_of_answers Answers = true
+
+-- the form of three flags, of which only one is given
+abbrev pub form_by : Bool → Bool → Bool → Option DiffForm
+form_by false false false = Some (Items Bare)
+form_by true false false = Some (Items (Guarded Names))
+form_by false true false = Some (Items (Guarded Sets))
+form_by false false true = Some Answers
+form_by _ _ _ = None
+
+abbrev pub tells_answers : PlanForm → Bool
+tells_answers plan_form.Records = false
+tells_answers plan_form.Answers = true
 
 abbrev pub is_json : TextForm → Bool
 is_json Plain = false
@@ -114,7 +128,7 @@ asks_text (text_job.Canon w) = (command.Canon, (argument.Origin, given w.origin.
 asks_text (text_job.Diff w) = (
   command.Diff,
   (argument.Origin, given w.origin.now) ∷ (argument.Guard, flag (is_guarded w.form)) ∷ (argument.GuardSets, flag (is_guarded_by_sets w.form))
-      ∷ (argument.Old, given w.files.old.now) ∷ (argument.New, given w.files.new.now) ∷ [],
+      ∷ (argument.Answers, flag (is_of_answers w.form)) ∷ (argument.Old, given w.files.old.now) ∷ (argument.New, given w.files.new.now) ∷ [],
 )
 asks_text (text_job.Request w) = (command.Request, request_values w.form w.id.now)
 asks_text (text_job.Rights w) = (
@@ -122,7 +136,8 @@ asks_text (text_job.Rights w) = (
   (argument.Policy, given w.policy.now) ∷ (argument.Caller, given w.asked.caller.now) ∷ (argument.Name, given w.asked.name.now)
       ∷ (argument.Type, given w.asked.record_type.now) ∷ (argument.Action, given w.asked.action.now) ∷ [],
 )
-asks_text (text_job.Plan w) = (command.Plan, (argument.Policy, given w.policy.now) ∷ (argument.Caller, given w.caller.now) ∷ [])
+asks_text (text_job.Plan w) =
+    (command.Plan, (argument.Policy, given w.policy.now) ∷ (argument.Caller, given w.caller.now) ∷ (argument.Answers, flag (tells_answers w.form)) ∷ [])
 asks_text (text_job.Check w) = asks_check w
 asks_text (text_job.Answer w) = (
   command.Answer,

@@ -1,5 +1,5 @@
 -- What a command line asks for, by the words after the program's name.
-use Rattle.std.specs.Prelude.{◌&&◌, Bool, true, false, not, List, [], ◌∷◌, Option, Some, None, is_some, option_map, option_and_then, codes, find, unwrap_or, if◌then◌else◌}
+use Rattle.std.specs.Prelude.{◌&&◌, ◌||◌, Bool, true, false, not, List, [], ◌∷◌, Option, Some, None, is_some, option_map, option_and_then, codes, find, unwrap_or, if◌then◌else◌}
 use Rattle.std.specs.Str.{bytes_eq}
 use Rattle.clap.specs.Words.{Row, Text, first_of, subcommand_of}
 use Rattle.cli_core.specs.Commands.{argument_name, arguments_of, command_of, office}
@@ -43,14 +43,16 @@ abbrev pub is_input : Value → Bool
 is_input (text (Some path)) = bytes_eq path (codes "-")
 is_input _ = false
 
--- whether values go together: one of two files at most is standard input, and prerequisites are of one scope; an update has an identifier,
+-- whether values go together: one of two files at most is standard input, and a diff prints prerequisites of one scope, or
+-- answers; an update has an identifier,
 -- or what stands before those of its parts, and only one of them; an import has an origin, or a list of zones, and only one of them; standard input is not both a zone and the questions to it, which have
 -- their types; a zone is not checked both by one rule only and by all but one; and a policy is not checked both against another and beside
 -- zones, and a reader is given with zones only
 abbrev pub go_together : Command → List Given → Bool
 go_together command.Diff gs =
     not (is_input (value_of argument.Old gs) && is_input (value_of argument.New gs))
-    && not (is_given (value_of argument.Guard gs) && is_given (value_of argument.GuardSets gs))
+    && (not (is_given (value_of argument.Guard gs) && is_given (value_of argument.GuardSets gs))
+    && not (is_given (value_of argument.Answers gs) && (is_given (value_of argument.Guard gs) || is_given (value_of argument.GuardSets gs))))
 go_together command.Answer gs =
     not (is_input (value_of argument.File gs) && is_input (value_of argument.AskedName gs))
     && not (is_input (value_of argument.AskedName gs) && is_given (value_of argument.AskedType gs))

@@ -46,6 +46,7 @@ pub enum Argument {
     Json,
     Guard,
     GuardSets,
+    Answers,
     Old,
     New,
     Id,
@@ -273,6 +274,11 @@ impl Argument {
                 name: "guard-sets",
                 form: Form::Flag,
                 help: "The same without tests of whole names; also --guard=sets",
+            },
+            Argument::Answers => &Row {
+                name: "answers",
+                form: Form::Flag,
+                help: "Which questions a server answers otherwise after the change",
             },
             Argument::Old => &Row {
                 name: "old",

@@ -83,6 +83,15 @@ pub enum ZoneForm {
 /// What a diff prints.
 #[derive(Clone, Copy)]
 pub enum DiffForm {
+    /// The items that lead from the one zone to the other.
+    Items(ItemForm),
+    /// The questions that a server answers otherwise from the other zone.
+    Answers,
+}
+
+/// Which items a diff prints.
+#[derive(Clone, Copy)]
+pub enum ItemForm {
     /// The operations alone.
     Bare,
     /// Before them prerequisites: that the record sets that they change are as in the old zone.
@@ -96,6 +105,15 @@ pub enum GuardScope {
     Names,
     /// The record sets that change, and what would keep out a set that comes.
     Sets,
+}
+
+/// What a plan prints of an update that would be made.
+#[derive(Clone, Copy)]
+pub enum PlanForm {
+    /// The records that go and come.
+    Records,
+    /// These, and the questions that a server answers otherwise then.
+    Answers,
 }
 
 /// As how many bodies an update is printed.

@@ -59,7 +59,7 @@ fn job_in<'a>(words: &[&str], matches: &ArgMatches<'a>) -> Option<Job<'a>>
 fn mistake_in(matches: &ArgMatches<'_>) -> &'static str {
     match matches.subcommand() {
         Some(("diff", _)) =>
-            "only one of OLD and NEW can be -, which is standard input, and only one kind of --guard is given",
+            "only one of OLD and NEW can be -, which is standard input, and only one of --answers, --guard and --guard-sets is given",
         Some(("answer", _)) =>
             "only one of FILE and NAME can be -, which is standard input; questions there have their types",
         Some(("check", _)) =>
@@ -122,11 +122,11 @@ fn reported(alloc: Global, words: &[&str], error: Error) -> WordsFault
 }
 
 /// The job that the words after the program's name ask for: none or `apply`; `canon --origin NAME [--relative]`;
-/// `diff --origin NAME [--guard | --guard-sets] OLD NEW`, where only one of the two can be `-`; `request (--id ID | --split ID)`;
+/// `diff --origin NAME [--answers | --guard | --guard-sets] OLD NEW`, where only one of the two can be `-`; `request (--id ID | --split ID)`;
 /// `import --store PATH (--origin NAME | --list LIST) [--replace]`; `export --store PATH --origin NAME [--at N] [--relative]`; `zones --store PATH`;
 /// `log --store PATH --origin NAME [--from N] [--name NAME] [--caller CALLER]`; `blame --store PATH --origin NAME [--name NAME]`;
 /// `undo --store PATH --origin NAME [--change N] [--to N]`; `migrate --store PATH`;
-/// `rights --policy PATH --caller CALLER NAME TYPE ACTION`; `plan --policy PATH --caller CALLER`;
+/// `rights --policy PATH --caller CALLER NAME TYPE ACTION`; `plan --policy PATH --caller CALLER [--answers]`;
 /// `serve --store PATH --policy PATH --listen ADDRESS:PORT [--connections N] [--patience SECONDS] [--longest SECONDS] [--memory MB]`;
 /// `check policy --policy PATH [--against PATH | --zones PATH [--reader CALLER]]`; `check expect [FILE] --policy PATH`; `check isolation --policy PATH --caller CALLER`;
 /// `check rights [NAME] --policy PATH`; `check zone --origin NAME [--only RULE | --not RULE] [--server SERVER] [--most N] [--warn]`;

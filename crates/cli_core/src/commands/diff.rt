@@ -10,7 +10,7 @@ ghost use Rattle.cli_core.specs.declared.commands.Command.TheVariants as command
 
 use crate::argument::Argument;
 use crate::commands::{CommandWords, Row};
-use crate::job::{DiffForm, GuardScope, Job, TextJob, ZoneFiles};
+use crate::job::{DiffForm, GuardScope, ItemForm, Job, TextJob, ZoneFiles};
 use crate::matched::{flag_at, text_at, texts_at};
 use clap::ArgMatches;
 
@@ -21,7 +21,7 @@ pub struct Diff<'a> {
     pub origin: &'a str,
     /// Where the two zones are.
     pub files: ZoneFiles<'a>,
-    /// What stands before the items.
+    /// What is printed of them.
     pub form: DiffForm,
 }
 
@@ -33,24 +33,28 @@ pub(super) static ROW: Row = Row {
         Argument::Origin,
         Argument::Guard,
         Argument::GuardSets,
+        Argument::Answers,
         Argument::Old,
         Argument::New,
     ],
 };
 
-/// What stands before the items, where not both kinds of prerequisites are asked for.
+/// What is printed, where no two of prerequisites by names, prerequisites by sets, and answers are asked for.
 fn form_at(matches: &ArgMatches<'_>) -> Option<DiffForm>
     ensures { result ≡ form_by (flag_if (first_of (argument_name argument.Guard) (rows_of (found_of matches.now))))
-        (flag_if (first_of (argument_name argument.GuardSets) (rows_of (found_of matches.now)))) }
+        (flag_if (first_of (argument_name argument.GuardSets) (rows_of (found_of matches.now))))
+        (flag_if (first_of (argument_name argument.Answers) (rows_of (found_of matches.now)))) }
 {
     match (
         flag_at(matches, Argument::Guard),
         flag_at(matches, Argument::GuardSets),
+        flag_at(matches, Argument::Answers),
     ) {
-        (false, false) => Some(DiffForm::Bare),
-        (true, false) => Some(DiffForm::Guarded(GuardScope::Names)),
-        (false, true) => Some(DiffForm::Guarded(GuardScope::Sets)),
-        (true, true) => None,
+        (false, false, false) => Some(DiffForm::Items(ItemForm::Bare)),
+        (true, false, false) => Some(DiffForm::Items(ItemForm::Guarded(GuardScope::Names))),
+        (false, true, false) => Some(DiffForm::Items(ItemForm::Guarded(GuardScope::Sets))),
+        (false, false, true) => Some(DiffForm::Answers),
+        _ => None,
     }
 }
 

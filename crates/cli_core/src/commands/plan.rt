@@ -1,11 +1,17 @@
 //! The command `plan`.
 
+ghost use Rattle.std.specs.Prelude.{◌≡◌};
+ghost use Rattle.clap.specs.Words.{first_of, found_of, rows_of};
+ghost use Rattle.cli_core.specs.Commands.{argument_name};
+ghost use Rattle.cli_core.specs.Jobs.{tells_answers};
+ghost use Rattle.cli_core.specs.Values.{flag_if};
+ghost use Rattle.cli_core.specs.declared.argument.Argument.TheVariants as argument;
 ghost use Rattle.cli_core.specs.declared.commands.Command.TheVariants as command;
 
 use crate::argument::Argument;
 use crate::commands::{CommandWords, Row};
-use crate::job::{Job, TextJob};
-use crate::matched::texts_at;
+use crate::job::{Job, PlanForm, TextJob};
+use crate::matched::{flag_at, texts_at};
 use clap::ArgMatches;
 
 /// The words of `plan`.
@@ -15,20 +21,38 @@ pub struct Plan<'a> {
     pub policy: &'a str,
     /// Who asks.
     pub caller: &'a str,
+    /// What is printed of an update that would be made.
+    pub form: PlanForm,
 }
 
 pub(super) static ROW: Row = Row {
     word: "plan",
     about: "Says what the office would answer to an update of a zone",
     example: "Example: zoneoffice plan --policy policy.toml --caller phys < update.txt",
-    arguments: &[Argument::Policy, Argument::Caller],
+    arguments: &[Argument::Policy, Argument::Caller, Argument::Answers],
 };
+
+/// What is printed of an update that would be made.
+fn form_at(matches: &ArgMatches<'_>) -> PlanForm
+    ensures { tells_answers result ≡ flag_if (first_of (argument_name argument.Answers) (rows_of (found_of matches.now))) }
+{
+    if flag_at(matches, Argument::Answers) {
+        PlanForm::Answers
+    } else {
+        PlanForm::Records
+    }
+}
 
 impl<'a> CommandWords<'a> for Plan<'a> {
     ghost command = { command.Plan };
 
     fn read(matches: &ArgMatches<'a>) -> Option<Job<'a>> {
         let (policy, caller) = texts_at(matches, Argument::Policy, Argument::Caller)?;
-        Some(Job::Text(TextJob::Plan(Plan { policy, caller })))
+        let form = form_at(matches);
+        Some(Job::Text(TextJob::Plan(Plan {
+            policy,
+            caller,
+            form,
+        })))
     }
 }
