@@ -10,8 +10,8 @@ use Rattle.zone_core.specs.Zones.{ZoneOf, IsZone, AreKept}
 use Rattle.zone_core.specs.Updates.{IsUpdate, IsOperation, IsPrerequisite, ActsWithin, acted_name, tested_name, adds_soa, first_outside}
 use Rattle.zone_core.specs.Prerequisites.{verdict, failure}
 use Rattle.zone_core.specs.Met.{AreMet}
-use Rattle.cli_core.specs.declared.job.DiffForm.{DiffForm}
-use Rattle.cli_core.specs.declared.job.DiffForm.TheVariants.{Bare, Guarded}
+use Rattle.cli_core.specs.declared.job.ItemForm.{ItemForm}
+use Rattle.cli_core.specs.declared.job.ItemForm.TheVariants.{Bare, Guarded}
 use Rattle.zone_core.specs.Effects.{effects, serial_advanced, zone_after}
 use Rattle.zone_tools.specs.Differences.{operations}
 use Rattle.zone_tools.specs.DifferencePromises.{AddsSoaLast, AreWithin}
@@ -94,26 +94,26 @@ module _ (old new : ZoneOf) (is_old : IsZone old) (is_new : IsZone new) (same : 
   leads : zone_after old (update_between old new) ≡ target_of old new
   leads = ap (λ (rs : Records). record old { records = rs }) (operations_lead old.origin old.records new.records old_keys new_keys)
 
-  are_prerequisites : (form : DiffForm) → AllByRecursion IsPrerequisite (prerequisites_in form old new ops)
+  are_prerequisites : (form : ItemForm) → AllByRecursion IsPrerequisite (prerequisites_in form old new ops)
   are_prerequisites Bare = tt
   are_prerequisites (Guarded scope) =
       each_guard scope old.records new.records ops is_old.kept is_new.kept IsPrerequisite (λ r here. let is = (is_old.kept (key_of r) r here).1 in (is.owner, is.rdata))
       (λ r here. let owner = (is_new.kept (key_of r) r here).1.owner in (owner, λ t. owner))
 
-  test_within : (form : DiffForm) → AllByRecursion (λ p. IsWithin (tested_name p) old.origin) (prerequisites_in form old new ops)
+  test_within : (form : ItemForm) → AllByRecursion (λ p. IsWithin (tested_name p) old.origin) (prerequisites_in form old new ops)
   test_within Bare = tt
   test_within (Guarded scope) =
       each_guard scope old.records new.records ops is_old.kept is_new.kept (λ p. IsWithin (tested_name p) old.origin) (λ r here. is_old.owners r here)
       (λ r here. let owner = subst (λ o. IsWithin r.owner o) same (is_new.owners r here) in (owner, λ t. owner))
 
-  are_met : (form : DiffForm) → AreMet old.records (prerequisites_in form old new ops)
+  are_met : (form : ItemForm) → AreMet old.records (prerequisites_in form old new ops)
   are_met Bare = tt
   are_met (Guarded scope) = guards_met scope old.records new.records ops is_old.kept
 
-  acts : (form : DiffForm) → ActsWithin old.origin (update_in form old new)
+  acts : (form : ItemForm) → ActsWithin old.origin (update_in form old new)
   acts form = record { prerequisites = test_within form; operations = are_within old.origin ops within }
 
-  is_update : (form : DiffForm) → length (prerequisites_in form old new ops) ≤ 64 → length ops ≤ 256 → IsUpdate (update_in form old new)
+  is_update : (form : ItemForm) → length (prerequisites_in form old new ops) ≤ 64 → length ops ≤ 256 → IsUpdate (update_in form old new)
   is_update form few_tests few = record {
     prerequisites = are_prerequisites form;
     operations = are_operations old.origin ops within;
@@ -122,14 +122,14 @@ module _ (old new : ZoneOf) (is_old : IsZone old) (is_new : IsZone new) (same : 
     one_soa = one_added old.origin old.records _ ops (operations_soa old.origin old.records new.records old_keys new_keys);
   }
 
-  none_fails : (form : DiffForm) → verdict old.records (prerequisites_in form old new ops) ≡ None
+  none_fails : (form : ItemForm) → verdict old.records (prerequisites_in form old new ops) ≡ None
   none_fails form = verdict_none old.records is_old.kept (prerequisites_in form old new ops) (are_prerequisites form) (are_met form)
 
-  none_unmet : (form : DiffForm) → first_unmet old (update_in form old new) ≡ None
+  none_unmet : (form : ItemForm) → first_unmet old (update_in form old new) ≡ None
   none_unmet form =
       rw ((none_outside old.origin (update_in form old new) (first_outside old.origin (update_in form old new)) refl).1 (acts form), none_fails form) refl
 
-  made : (form : DiffForm) → updated old (update_in form old new) ≡ Ok (zone_lines (target_of old new))
+  made : (form : ItemForm) → updated old (update_in form old new) ≡ Ok (zone_lines (target_of old new))
   made form = ap (λ o. unless o (zone_lines (zone_after old (update_in form old new)))) (none_unmet form) ∙ ap (λ z. Ok (zone_lines z)) leads
 
 pub diffs_lead : DiffsLead

@@ -15,6 +15,7 @@ pub mod CheckLemmas
 pub mod DiffLaws
 pub mod SetLaws
 pub mod DiffLemmas
+pub mod ToldLemmas
 pub mod SlotLemmas
 pub mod FillingLemmas
 pub mod PieceLemmas

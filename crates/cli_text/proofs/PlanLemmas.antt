@@ -1,5 +1,5 @@
 -- The lines of a plan, by what the office would answer.
-use Rattle.std.proofs.Common.{◌≡◌, ◌≢◌, ◌∙◌, ◌++◌, Option, Some, None, refl, sym, ap}
+use Rattle.std.proofs.Common.{◌≡◌, ◌≢◌, ◌∙◌, ℕ, List, [], ◌++◌, Option, Some, None, refl, sym, ap, subst, append_assoc, append-nil}
 use Rattle.zone_core.specs.Prerequisites.{verdict}
 use Rattle.zone_core.specs.Zones.{ZoneOf}
 use Rattle.zone_core.specs.Updates.{UpdateOf, first_outside}
@@ -12,14 +12,29 @@ use Rattle.office_core.specs.Permissions.{first_denial}
 use Rattle.office_core.specs.Machine.{zone_refusal}
 use Rattle.office_core.specs.Steps.{Makes, held_in}
 use Rattle.office_core.proofs.MadeLemmas.{never_made}
-use Rattle.cli_text.specs.Plan.{AskerOf, reply_line, change_lines, serial_line, plan_lines, planned}
+use Rattle.cli_core.specs.declared.job.PlanForm.{PlanForm}
+use Rattle.cli_core.specs.declared.job.PlanForm.TheVariants.{Records, Answers}
+use Rattle.cli_text.specs.Plan.{AskerOf, ZoneUpdateOf, reply_line, change_lines, serial_line, plan_lines, planned, AreLinesOf, IsPlanText, AreLinesAfter}
 
 module _ (asker : AskerOf) (zone : ZoneOf) (update : UpdateOf) (reply : UpdateReply) (change : Option ChangeOf) where
+  abbrev asked : ZoneUpdateOf
+  asked = record { zone = zone; update = update }
+
   abbrev refused : Option UpdateReply
   refused = zone_refusal asker.rules asker.caller zone.origin update (held_in zone)
 
+  -- an update that is made is not refused
+  none_refused : Makes zone update refused reply change → reply ≡ NoError → refused ≡ None
+  none_refused makes is = by_refusal refused refl makes
+    where
+      by_refusal : (r : Option UpdateReply) → refused ≡ r → Makes zone update r reply change → refused ≡ None
+      by_refusal None e made = e
+      by_refusal (Some r) e made =
+          absurd (never_made (first_outside zone.origin update) (first_denial asker.rules asker.caller (footprint zone.origin update)) (verdict zone.records update.prerequisites)
+          (e ∙ ap (λ (x : UpdateReply). Some x) (sym made.0 ∙ is)))
+
   pub lines_made : Makes zone update refused reply change → reply ≡ NoError
-      → planned asker zone update ≡ reply_line reply ++ (change_lines change ++ serial_line (zone_after zone update))
+      → planned asker asked ≡ reply_line reply ++ (change_lines change ++ serial_line (zone_after zone update))
   lines_made makes is = by_refusal refused refl makes
     where
       by_refusal : (r : Option UpdateReply) → refused ≡ r → Makes zone update r reply change
@@ -29,9 +44,37 @@ module _ (asker : AskerOf) (zone : ZoneOf) (update : UpdateOf) (reply : UpdateRe
           absurd (never_made (first_outside zone.origin update) (first_denial asker.rules asker.caller (footprint zone.origin update)) (verdict zone.records update.prerequisites)
           (e ∙ ap (λ (x : UpdateReply). Some x) (sym made.0 ∙ is)))
 
-  pub lines_refused : Makes zone update refused reply change → reply ≢ NoError → planned asker zone update ≡ reply_line reply
+  pub lines_refused : Makes zone update refused reply change → reply ≢ NoError → planned asker asked ≡ reply_line reply
   lines_refused makes other = by_refusal refused makes
     where
       by_refusal : (r : Option UpdateReply) → Makes zone update r reply change → plan_lines zone update r ≡ reply_line reply
       by_refusal None made = absurd (other made.0)
       by_refusal (Some r) made = ap reply_line (sym made.0)
+
+  -- ---- in a form
+
+  -- what was appended to the reply and the change of an update that is made
+  lines_after : (old new : List ℕ) → Makes zone update refused reply change → reply ≡ NoError → old ≡ reply_line reply ++ change_lines change
+      → new ≡ old ++ serial_line (zone_after zone update) → new ≡ planned asker asked
+  lines_after old new makes is so e =
+      e ∙ (ap (λ bs. bs ++ serial_line (zone_after zone update)) so
+      ∙ (append_assoc (reply_line reply) (change_lines change) (serial_line (zone_after zone update)) ∙ sym (lines_made makes is)))
+
+  pub text_made : (form : PlanForm) (old new : List ℕ) → Makes zone update refused reply change → reply ≡ NoError → old ≡ reply_line reply ++ change_lines change
+      → AreLinesAfter form zone (zone_after zone update) old new → IsPlanText form asker asked new
+  text_made Records old new makes is so after = lines_after old new makes is so after
+  text_made Answers old new makes is so after =
+      let whole = old ++ serial_line (zone_after zone update) in (
+        after.0,
+        subst (λ r. AreLinesOf asked r after.0) (sym (none_refused makes is)) after.1,
+        after.2 ∙ ap (λ bs. bs ++ after.0) (lines_after old whole makes is so refl),
+      )
+
+  pub text_refused : (form : PlanForm) (text : List ℕ) → Makes zone update refused reply change → reply ≢ NoError → text ≡ reply_line reply → IsPlanText form asker asked text
+  text_refused Records text makes other e = e ∙ sym (lines_refused makes other)
+  text_refused Answers text makes other e =
+      ([], none_after refused makes, e ∙ (sym (lines_refused makes other) ∙ sym (append-nil (planned asker asked))))
+    where
+      none_after : (r : Option UpdateReply) → Makes zone update r reply change → AreLinesOf asked r []
+      none_after None made = absurd (other made.0)
+      none_after (Some r) made = refl

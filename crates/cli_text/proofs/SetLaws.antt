@@ -21,7 +21,7 @@ use Rattle.zone_core.proofs.MetLemmas.{Among, among_of}
 use Rattle.zone_core.proofs.SetLemmas.{by_cases}
 use Rattle.zone_core.proofs.ZoneLemmas.{Keys, is_kind, keys_of, kind, no}
 use Rattle.zone_tools.specs.Differences.{is_equal, operations}
-use Rattle.cli_core.specs.declared.job.DiffForm.TheVariants.{Guarded}
+use Rattle.cli_core.specs.declared.job.ItemForm.TheVariants.{Guarded}
 use Rattle.cli_core.specs.declared.job.GuardScope.{GuardScope}
 use Rattle.cli_core.specs.declared.job.GuardScope.TheVariants.{Names, Sets}
 use Rattle.cli_text.specs.Guards.{absent, are_equal, changes_set, comes_first, guards_of, is_below_origin, is_first, is_new, lacks, not_there, set_like, there, types_absent}

@@ -1,4 +1,5 @@
--- What `diff` prints: the items that lead from one zone to another of the same origin, and in a form prerequisites before them.
+-- What `diff` prints: the items that lead from one zone to another of the same origin, and in a form prerequisites before them; or which
+-- questions a server answers otherwise from the other.
 use Rattle.std.specs.Prelude.{◌≡◌, ◌≢◌, ◌↔◌, ◌⊎◌, ℕ, ◌≤◌, List, [], length, true, if◌then◌else◌, Option, Result, Ok, Err}
 use Rattle.std.specs.List.{Contains}
 use Rattle.dns_data.specs.declared.record.Record.{Record}
@@ -16,7 +17,9 @@ use Rattle.zone_tools.specs.Differences.{operations, target}
 use Rattle.update_lines.specs.Reading.{items_of}
 use Rattle.update_lines.specs.Texts.{update_text}
 use Rattle.cli_core.specs.declared.job.DiffForm.{DiffForm}
-use Rattle.cli_core.specs.declared.job.DiffForm.TheVariants.{Bare, Guarded}
+use Rattle.cli_core.specs.declared.job.DiffForm.TheVariants.{Items, Answers}
+use Rattle.cli_core.specs.declared.job.ItemForm.{ItemForm}
+use Rattle.cli_core.specs.declared.job.ItemForm.TheVariants.{Bare, Guarded}
 use Rattle.cli_core.specs.declared.job.GuardScope.{GuardScope}
 use Rattle.cli_core.specs.declared.job.GuardScope.TheVariants.{Sets}
 use Rattle.cli_core.specs.declared.refusal.Refusal.{Refusal}
@@ -27,31 +30,34 @@ use Rattle.cli_core.specs.LineFaults.{◌>>=◌, limited, Makes}
 use Rattle.cli_core.specs.Replies.{Answered}
 use Rattle.cli_text.specs.Canon.{zone_of_file, zone_read}
 use Rattle.cli_text.specs.Apply.{updated, zone_lines}
+use Rattle.cli_text.specs.ChangedAnswerLines.{AreAnswerLines}
+use Rattle.cli_text.specs.Texts.{Told}
 use Rattle.cli_text.specs.Guards.{changes_set, guards_of}
 use Rattle.cli_core.specs.Inputs.{InputOf}
 use Rattle.cli_text.specs.GuardPromises.{HaveSameSet, HasRoom, IsOfNoSet, IsOfOperation, IsTestFor}
 
 -- the prerequisites before operations between two zones, in a form
-abbrev pub prerequisites_in : DiffForm → ZoneOf → ZoneOf → List Operation → List Prerequisite
+abbrev pub prerequisites_in : ItemForm → ZoneOf → ZoneOf → List Operation → List Prerequisite
 prerequisites_in Bare old new ops = []
 prerequisites_in (Guarded scope) old new ops = guards_of scope old.records new.records ops
 
 -- the update that leads from one zone to another, in a form
-abbrev pub update_in : DiffForm → ZoneOf → ZoneOf → UpdateOf
+abbrev pub update_in : ItemForm → ZoneOf → ZoneOf → UpdateOf
 update_in form old new =
     let ops = operations old.origin old.records new.records in record { prerequisites = prerequisites_in form old new ops; operations = ops }
 
 -- the items that lead from one zone to another
-abbrev pub items_between : DiffForm → ZoneOf → ZoneOf → List ℕ
+abbrev pub items_between : ItemForm → ZoneOf → ZoneOf → List ℕ
 items_between form old new = update_text (update_in form old new)
 
--- the items that lead from a zone to that of a master file
-abbrev pub items_to : DiffForm → ZoneOf → List ℕ → Result (List ℕ) Refusal
-items_to form old file = zone_of_file old.origin file >>= λ new. Ok (items_between form old new)
+-- what is printed of two zones in a form
+abbrev pub IsDiffText : DiffForm → ZoneOf → ZoneOf → List ℕ → Type 0
+IsDiffText (Items form) old new text = text ≡ items_between form old new
+IsDiffText Answers old new text = AreAnswerLines old new text
 
--- the same of an input that is the master file
-abbrev pub diff_text : DiffForm → ZoneOf → List ℕ → Result (List ℕ) Refusal
-diff_text form old input = limited input >>= items_to form old
+-- the zone of an input that is its master file, of the origin of another
+abbrev pub new_read : ZoneOf → List ℕ → Result ZoneOf Refusal
+new_read old input = limited input >>= zone_of_file old.origin
 
 -- ---- two inputs
 
@@ -71,7 +77,7 @@ IsOldRead word left before after (Err fault) fine failed writes writes_after =
 abbrev pub IsDiff : DiffForm → List ℕ → InputOf → InputOf → Option (List ℕ) → Option (List ℕ) → Result (Unit {0}) JobFault → ℕ → ℕ → Type 0
 IsDiff form word old new before after result writes writes_after =
     (zone : ZoneOf) × Makes old.left (zone_read word) (Ok zone) × old.fine
-    × Answered new.left (diff_text form zone) before after result new.fine new.failed writes writes_after
+    × Told (IsDiffText form zone) (new_read zone) new.left before after result new.fine new.failed writes writes_after
 
 -- The form, the word of the origin, what is known of the old zone's file and of the new one's, what the writer held before and after, how
 -- it went, and the writer's failures before and after: the old zone was refused, or not read, and the new one's file was let be; or
@@ -102,7 +108,7 @@ operations_of old new = (update_between old new).operations
 
 -- the prerequisites of a diff are met in the old zone
 abbrev pub DiffsAreMet : Type 0
-DiffsAreMet = (form : DiffForm) (old new : ZoneOf) → IsZone old → IsZone new → AreMet old.records (update_in form old new).prerequisites
+DiffsAreMet = (form : ItemForm) (old new : ZoneOf) → IsZone old → IsZone new → AreMet old.records (update_in form old new).prerequisites
 
 -- the prerequisites of a scope before the operations from one zone to another are met in a third of their origin
 pub record Meets (scope : GuardScope) (old new now : ZoneOf) : Type 0 where
@@ -175,6 +181,6 @@ NoSoaIsTestedFor =
 -- the operations lead
 abbrev pub DiffsAreApplied : Type 0
 DiffsAreApplied =
-    (form : DiffForm) (old new : ZoneOf) → IsZone old → IsZone new → new.origin ≡ old.origin → length (update_in form old new).prerequisites ≤ 64
+    (form : ItemForm) (old new : ZoneOf) → IsZone old → IsZone new → new.origin ≡ old.origin → length (update_in form old new).prerequisites ≤ 64
     → length (update_in form old new).operations ≤ 256
     → (items_of (items_between form old new) ≡ Ok (update_in form old new)) × (updated old (update_in form old new) ≡ Ok (zone_lines (target_of old new)))

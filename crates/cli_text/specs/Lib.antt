@@ -21,6 +21,8 @@ pub mod ExpectAnswers
 pub mod PolicyZoneAnswers
 pub mod Guards
 pub mod GuardPromises
+pub mod Texts
+pub mod ChangedAnswerLines
 pub mod Diff
 pub mod Request
 pub mod Octets

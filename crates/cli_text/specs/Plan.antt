@@ -1,5 +1,5 @@
--- What `plan` prints: what the office would answer to an update of a zone by a caller, and what that would change, of an input that is a
--- master file, a line `--`, and items.
+-- What `plan` prints: what the office would answer to an update of a zone by a caller, what that would change, and in a form which questions
+-- a server answers otherwise then; of an input that is a master file, a line `--`, and items.
 use Rattle.std.specs.Prelude.{◌≡◌, ℕ, List, [], ◌∷◌, ◌++◌, codes, decimal, Option, Some, None, Result, Ok, Err}
 use Rattle.std.specs.List.{flat_map}
 use Rattle.dns_data.specs.declared.record.Record.{Record}
@@ -17,6 +17,9 @@ use Rattle.office_core.specs.Machine.{zone_refusal}
 use Rattle.office_core.specs.Steps.{held_in, change_made}
 use Rattle.office_model.specs.ReplyWords.{reply_words}
 use Rattle.cli_text.specs.declared.plan.Asker.{Asker}
+use Rattle.cli_text.specs.declared.plan.ZoneUpdate.{ZoneUpdate}
+use Rattle.cli_core.specs.declared.job.PlanForm.{PlanForm}
+use Rattle.cli_core.specs.declared.job.PlanForm.TheVariants.{Records, Answers}
 use Rattle.cli_core.specs.declared.refusal.Refusal.{Refusal}
 use Rattle.cli_core.specs.declared.refusal.Refusal.TheVariants.{NoCaller, NoDivider}
 use Rattle.cli_core.specs.declared.line_fault.JobFault.{JobFault}
@@ -26,6 +29,8 @@ use Rattle.cli_core.specs.LineFaults.{◌>>=◌, or_refused, limited, of_policie
 use Rattle.cli_core.specs.Replies.{Answered}
 use Rattle.cli_text.specs.Parts.{divided}
 use Rattle.cli_text.specs.Apply.{zone_of_text, update_behind}
+use Rattle.cli_text.specs.ChangedAnswerLines.{AreAnswerLines}
+use Rattle.cli_text.specs.Texts.{Told}
 use Rattle.cli_core.specs.Inputs.{InputOf}
 
 -- ---- who asks
@@ -49,6 +54,16 @@ asker_of caller text = of_policies (policy_of (document_of text)) >>= λ rules. 
 -- the caller that a word is, and the policy that is the input
 abbrev pub asker_read : List ℕ → List ℕ → Result AskerOf Refusal
 asker_read word input = caller_in word >>= λ caller. limited input >>= asker_of caller
+
+-- ---- what is asked
+
+-- a zone, and an update of it
+pub record ZoneUpdateOf : Type 0 where
+  pub zone : ZoneOf
+  pub update : UpdateOf
+
+abbrev pub zone_update : ZoneUpdate → ZoneUpdateOf
+zone_update u = record { zone = u.zone; update = u.update }
 
 -- ---- the answer
 
@@ -76,20 +91,42 @@ plan_lines zone update (Some refused) = reply_line refused
 plan_lines zone update None =
     let after = zone_after zone update in reply_line NoError ++ (change_lines (change_made zone.records after.records) ++ serial_line after)
 
--- what the office would answer to an update of a zone, and change
-abbrev pub planned : AskerOf → ZoneOf → UpdateOf → List ℕ
-planned asker zone update = plan_lines zone update (zone_refusal asker.rules asker.caller zone.origin update (held_in zone))
+-- what the office would refuse, of an update of a zone
+abbrev pub plan_refusal : AskerOf → ZoneUpdateOf → Option UpdateReply
+plan_refusal asker u = zone_refusal asker.rules asker.caller u.zone.origin u.update (held_in u.zone)
 
--- ---- all of it
+-- what the office would answer to it, and change
+abbrev pub planned : AskerOf → ZoneUpdateOf → List ℕ
+planned asker u = plan_lines u.zone u.update (plan_refusal asker u)
 
--- what is printed of an input, whatever its size
-abbrev pub plan_behind : AskerOf → List ℕ → Result (List ℕ) Refusal
-plan_behind asker input =
-    or_refused (divided input) NoDivider >>= λ parts. zone_of_text parts.file >>= λ zone. update_behind parts >>= λ update. Ok (planned asker zone update)
+-- ---- the answers of a server
 
--- what is printed of an input
-abbrev pub plan_text : AskerOf → List ℕ → Result (List ℕ) Refusal
-plan_text asker input = limited input >>= plan_behind asker
+-- the lines of the questions that a server answers otherwise after an update, if it is made
+abbrev pub AreLinesOf : ZoneUpdateOf → Option UpdateReply → List ℕ → Type 0
+AreLinesOf u (Some refused) lines = lines ≡ []
+AreLinesOf u None lines = AreAnswerLines u.zone (zone_after u.zone u.update) lines
+
+-- what is printed, in a form
+abbrev pub IsPlanText : PlanForm → AskerOf → ZoneUpdateOf → List ℕ → Type 0
+IsPlanText Records asker u text = text ≡ planned asker u
+IsPlanText Answers asker u text = (lines : List ℕ) × AreLinesOf u (plan_refusal asker u) lines × (text ≡ planned asker u ++ lines)
+
+-- what is appended in a form to a text, of a zone before an update and after it
+abbrev pub AreLinesAfter : PlanForm → ZoneOf → ZoneOf → List ℕ → List ℕ → Type 0
+AreLinesAfter Records before after old new = new ≡ old ++ serial_line after
+AreLinesAfter Answers before after old new = (lines : List ℕ) × AreAnswerLines before after lines × (new ≡ (old ++ serial_line after) ++ lines)
+
+-- ---- the zone and the update
+
+-- those of an input, whatever its size
+abbrev pub zone_update_in : List ℕ → Result ZoneUpdateOf Refusal
+zone_update_in input =
+    or_refused (divided input) NoDivider
+    >>= λ parts. zone_of_text parts.file >>= λ zone. update_behind parts >>= λ update. Ok (record { zone = zone; update = update })
+
+-- those of an input
+abbrev pub zone_update_read : List ℕ → Result ZoneUpdateOf Refusal
+zone_update_read input = limited input >>= zone_update_in
 
 -- ---- two inputs
 
@@ -107,16 +144,16 @@ IsAskerRead word left before after (Err fault) fine failed writes writes_after =
     Answered left (asker_text word) before after (Err fault) fine failed writes writes_after
 
 -- what is answered to the zone and its update, where the policy was read
-abbrev pub IsAnswered : List ℕ → InputOf → InputOf → Option (List ℕ) → Option (List ℕ) → Result (Unit {0}) JobFault → ℕ → ℕ → Type 0
-IsAnswered word policy input before after result writes writes_after =
+abbrev pub IsAnswered : PlanForm → List ℕ → InputOf → InputOf → Option (List ℕ) → Option (List ℕ) → Result (Unit {0}) JobFault → ℕ → ℕ → Type 0
+IsAnswered form word policy input before after result writes writes_after =
     (asker : AskerOf) × Makes policy.left (asker_read word) (Ok asker) × policy.fine
-    × Answered input.left (plan_text asker) before after result input.fine input.failed writes writes_after
+    × Told (IsPlanText form asker) zone_update_read input.left before after result input.fine input.failed writes writes_after
 
--- The word of the caller, what is known of the policy and of the other input, what the writer held before and after, how it went, and the
+-- The form, the word of the caller, what is known of the policy and of the other input, what the writer held before and after, how it went, and the
 -- writer's failures before and after: the policy was refused, or not read, and the other input was let be; or else the input was
 -- answered by it.
-abbrev pub IsPlanned : List ℕ → InputOf → InputOf → Option (List ℕ) → Option (List ℕ) → Result (Unit {0}) PlanFault → ℕ → ℕ → Type 0
-IsPlanned word policy input before after (Err (Policy fault)) writes writes_after =
+abbrev pub IsPlanned : PlanForm → List ℕ → InputOf → InputOf → Option (List ℕ) → Option (List ℕ) → Result (Unit {0}) PlanFault → ℕ → ℕ → Type 0
+IsPlanned form word policy input before after (Err (Policy fault)) writes writes_after =
     Answered policy.left (asker_text word) before after (Err fault) policy.fine policy.failed writes writes_after × input.fine
-IsPlanned word policy input before after (Err (Input fault)) writes writes_after = IsAnswered word policy input before after (Err fault) writes writes_after
-IsPlanned word policy input before after (Ok done) writes writes_after = IsAnswered word policy input before after (Ok done) writes writes_after
+IsPlanned form word policy input before after (Err (Input fault)) writes writes_after = IsAnswered form word policy input before after (Err fault) writes writes_after
+IsPlanned form word policy input before after (Ok done) writes writes_after = IsAnswered form word policy input before after (Ok done) writes writes_after

@@ -1,14 +1,18 @@
-//! The items that lead from one zone to another.
+//! The items that lead from one zone to another, or the questions that a server answers otherwise from it.
 
 ghost use Rattle.std.specs.Prelude.{◌≡◌, ◌<◌, ℕ, IfOk, string_bytes};
 ghost use Rattle.cli_core.specs.LineFaults.{Gives, GivesOf};
-ghost use Rattle.cli_text.specs.Diff.{prerequisites_in, items_between, items_to, diff_text, IsOldRead, Differs};
+ghost use Rattle.cli_text.specs.Canon.{zone_of_file};
+ghost use Rattle.cli_text.specs.Texts.{GivesText, Told};
+ghost use Rattle.cli_text.specs.Diff.{prerequisites_in, items_between, new_read, IsDiffText, IsOldRead, Differs};
 
 use crate::canon::{read_zone, zone_of_file};
+use crate::changed_answers::answer_lines;
 use crate::diff_fault::DiffFault;
 use crate::guard::guards_of;
-use crate::task::Task;
-use cli_core::{DiffForm, Input, JobFault, LineFault, read_input, write_answer, write_refusal};
+use cli_core::{
+    DiffForm, Input, ItemForm, JobFault, LineFault, read_input, write_answer, write_refusal,
+};
 use dns_master::Sink;
 use std::alloc::{AllocError, Global};
 use update_lines::lists_text;
@@ -18,7 +22,7 @@ use zone_tools::operations_between;
 /// The prerequisites that a diff prints before operations. The only error is out of memory.
 fn prerequisites_in(
     alloc: Global,
-    form: DiffForm,
+    form: ItemForm,
     old: &Zone,
     new: &Zone,
     operations: &[Operation],
@@ -26,15 +30,15 @@ fn prerequisites_in(
     ensures { IfOk result (λ guards. guards.items ≡ prerequisites_in form old.now new.now operations.now) }
 {
     match form {
-        DiffForm::Bare => Ok(Vec::new(alloc)),
-        DiffForm::Guarded(scope) => guards_of(alloc, scope, old, new, operations),
+        ItemForm::Bare => Ok(Vec::new(alloc)),
+        ItemForm::Guarded(scope) => guards_of(alloc, scope, old, new, operations),
     }
 }
 
 /// The items that lead from a zone to another of its origin. The only error is out of memory.
 pub fn items_between(
     alloc: Global,
-    form: DiffForm,
+    form: ItemForm,
     old: &Zone,
     new: &Zone,
 ) -> Result<String, AllocError>
@@ -46,49 +50,61 @@ pub fn items_between(
     lists_text(alloc, &prerequisites, &operations)
 }
 
-/// The items that lead from a zone to that of a master file, whose octets are given back.
-fn items_to(alloc: Global, form: DiffForm, old: &Zone, file: Vec<u8>) -> Result<String, LineFault>
-    ensures { Gives string_bytes result (items_to form old.now file.items) }
+/// What is printed of two zones of an origin, in a form. The only error is out of memory.
+fn diff_text(alloc: Global, form: DiffForm, old: Zone, new: Zone) -> Result<String, AllocError>
+    requires { new.origin ≡ old.origin }
+    ensures { IfOk result (λ text. IsDiffText form old new (string_bytes text)) }
 {
-    let origin = old.origin().try_copy(alloc)?;
-    let new = zone_of_file(alloc, origin, file)?;
-    Ok(items_between(alloc, form, old, &new)?)
+    match form {
+        DiffForm::Items(form) => items_between(alloc, form, &old, &new),
+        DiffForm::Answers => answer_lines(alloc, old, new),
+    }
 }
 
-/// The items that lead from a zone to that of the master file that a reader gives.
+/// The zone of a master file, of the origin of another zone. The octets are given back.
+fn zone_beside(alloc: Global, old: &Zone, file: Vec<u8>) -> Result<Zone, LineFault>
+    ensures read { Gives (λ zone. zone) result (zone_of_file old.now.origin file.items) }
+    ensures origin { IfOk result (λ zone. zone.origin ≡ old.now.origin) }
+{
+    let origin = old.origin().try_copy(alloc)?;
+    zone_of_file(alloc, origin, file)
+}
+
+/// The zone of the master file that a reader gives, of the origin of another.
+fn read_new<R: Input>(alloc: Global, old: &Zone, reader: &mut R) -> Result<Zone, LineFault>
+    ensures read { GivesOf (λ zone. zone) (R.left reader.old) (new_read old.now) result (R.fine reader.old reader.new) (R.failed reader.old reader.new) }
+    ensures origin { IfOk result (λ zone. zone.origin ≡ old.now.origin) }
+{
+    let file = read_input(alloc, reader)?;
+    zone_beside(alloc, old, file)
+}
+
+/// What is printed of a zone and that of the master file that a reader gives.
 fn answer<R: Input>(
     alloc: Global,
     form: DiffForm,
-    old: &Zone,
+    old: Zone,
     reader: &mut R,
 ) -> Result<String, LineFault>
-    ensures { GivesOf string_bytes (R.left reader.old) (diff_text form old.now) result (R.fine reader.old reader.new) (R.failed reader.old reader.new) }
+    ensures { GivesText string_bytes (IsDiffText form old) (new_read old) (R.left reader.old) result (R.fine reader.old reader.new) (R.failed reader.old reader.new) }
 {
-    let file = read_input(alloc, reader)?;
-    items_to(alloc, form, old, file)
+    let new = read_new(alloc, &old, reader)?;
+    Ok(diff_text(alloc, form, old, new)?)
 }
 
-/// The task `diff`, once the zone as it is was read: to read the master file of the zone as it is to be, and to write the items
-/// that lead to it.
-#[derive(Drop)]
-struct Diff {
-    /// The zone as it is.
-    old: Zone,
-    /// What is printed.
+/// Reads the master file of the zone as it is to be, and writes what is printed of it and the zone as it is. On a failure, a line tells
+/// why.
+fn write_diff<R: Input, W: Sink>(
+    alloc: Global,
     form: DiffForm,
-}
-
-impl Task for Diff {
-    ghost answer = { λ d. diff_text d.form d.old };
-
-    fn run<R: Input, W: Sink>(
-        self,
-        alloc: Global,
-        reader: &mut R,
-        writer: &mut W,
-    ) -> Result<(), JobFault> {
-        write_answer(alloc, writer, answer(alloc, self.form, &self.old, reader))
-    }
+    old: Zone,
+    reader: &mut R,
+    writer: &mut W,
+) -> Result<(), JobFault>
+    ensures { Told (IsDiffText form old) (new_read old) (R.left reader.old) (W.contents writer.old) (W.contents writer.new) result (R.fine reader.old reader.new)
+        (R.failed reader.old reader.new) (W.failures writer.old) (W.failures writer.new) }
+{
+    write_answer(alloc, writer, answer(alloc, form, old, reader))
 }
 
 /// The zone of an origin and a reader that gives its master file. On a failure, a line tells why.
@@ -107,9 +123,9 @@ fn old_zone<R: Input, W: Sink>(
     }
 }
 
-/// Writes the items that lead from one zone to another of an origin, in a form. Two inputs are the two master files: of the zone as it is,
-/// and as it is to be. Made in order, the items give the new zone of the old one; where the two differ in nothing but a serial that
-/// is not greater, nothing is written. Otherwise one line tells the refusal that comes first: of the origin; that the old zone's file
+/// Writes the items that lead from one zone to another of an origin, in a form; or a line for each group of names for which a server
+/// answers questions otherwise from the other. Two inputs are the two master files: of the zone as it is, and as it is to be. Made in order,
+/// the items give the new zone of the old one; where the two differ in nothing but a serial that is not greater, there are none. Otherwise one line tells the refusal that comes first: of the origin; that the old zone's file
 /// is too large, of it as a master file, of its records as a zone; and the same of the new zone's, which is read after the other.
 pub fn do_diff<R: Input, N: Input, W: Sink>(
     alloc: Global,
@@ -128,7 +144,7 @@ pub fn do_diff<R: Input, N: Input, W: Sink>(
         Ok(zone) => zone,
         Err(fault) => return Err(DiffFault::Old(fault)),
     };
-    match (Diff { old, form }).run(alloc, new, writer) {
+    match write_diff(alloc, form, old, new, writer) {
         Ok(()) => Ok(()),
         Err(fault) => Err(DiffFault::New(fault)),
     }

@@ -6,6 +6,7 @@ mod answer;
 mod answer_fault;
 mod apply;
 mod canon;
+mod changed_answers;
 mod changes_fault;
 mod check;
 mod diff;

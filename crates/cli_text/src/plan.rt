@@ -5,13 +5,14 @@ ghost use Rattle.zone_core.specs.Changes.{change_in};
 ghost use Rattle.zone_core.specs.Updates.{ActsWithin};
 ghost use Rattle.zone_core.specs.Effects.{zone_after};
 ghost use Rattle.cli_core.specs.LineFaults.{Gives, GivesOf};
-ghost use Rattle.cli_text.specs.Plan.{asker_in, asker_of, asker_read, reply_line, signed_lines, change_lines, serial_line, planned, plan_behind, plan_text, IsAskerRead, IsPlanned};
+ghost use Rattle.cli_text.specs.Texts.{GivesText, Told};
+ghost use Rattle.cli_text.specs.Plan.{asker_in, asker_of, asker_read, reply_line, signed_lines, change_lines, serial_line, zone_update, zone_update_in, zone_update_read, AreLinesAfter, IsPlanText, IsAskerRead, IsPlanned};
 
 use crate::apply::{InputRead, read_parts, zone_of_records};
+use crate::changed_answers::answer_lines;
 use crate::plan_fault::PlanFault;
 use crate::rights::read_caller;
-use crate::task::Task;
-use cli_core::{Input, JobFault, LineFault, read_input, write_answer, write_refusal};
+use cli_core::{Input, JobFault, LineFault, PlanForm, read_input, write_answer, write_refusal};
 use dns_data::Record;
 use dns_master::Sink;
 use grant_policy::{Identifier, Policy, read_policy};
@@ -19,13 +20,20 @@ use office_core::{UpdateReply, plan};
 use office_model::reply_words;
 use std::alloc::{AllocError, Global};
 use std::fmt::Write as _;
-use zone_core::{Change, Update, Zone, apply_owned};
+use zone_core::{Change, Update, Zone, apply, apply_owned};
 
 /// Who asks, and the policy that decides.
 #[derive(Drop)]
 struct Asker {
     policy: Policy,
     caller: Identifier,
+}
+
+/// A zone, and an update of it.
+#[derive(Drop)]
+struct ZoneUpdate {
+    zone: Zone,
+    update: Update,
 }
 
 /// A caller, and the policy of a text.
@@ -75,64 +83,105 @@ fn push_change(text: &mut String, change: &Option<Change>) -> Result<(), AllocEr
     push_signed(text, "+", &change.added)
 }
 
-/// Appends the line of the serial of a zone after an update of it. The only error is out of memory.
-fn push_serial(
+/// Appends the line of the serial of a zone. The only error is out of memory.
+fn push_serial(text: &mut String, zone: &Zone) -> Result<(), AllocError>
+    ensures { OnOk result (string_bytes text.new ≡ string_bytes text.old ++ serial_line zone.now) }
+{
+    let serial = zone.serial();
+    writeln!(text, "serial {serial}")
+}
+
+/// Appends the line of the serial of a zone after an update of it, and in a form the lines of the questions that a server answers otherwise
+/// then. The only error is out of memory.
+fn push_after(
     alloc: Global,
     text: &mut String,
+    form: PlanForm,
     zone: Zone,
     update: &Update,
 ) -> Result<(), AllocError>
     requires { ActsWithin zone.origin update.now }
-    ensures { OnOk result (string_bytes text.new ≡ string_bytes text.old ++ serial_line (zone_after zone update.now)) }
+    ensures { OnOk result (AreLinesAfter form zone (zone_after zone update.now) (string_bytes text.old) (string_bytes text.new)) }
 {
-    let outcome = apply_owned(alloc, zone, update)?;
-    let serial = outcome.zone.serial();
-    writeln!(text, "serial {serial}")
+    match form {
+        PlanForm::Records => {
+            let outcome = apply_owned(alloc, zone, update)?;
+            push_serial(text, &outcome.zone)
+        }
+        PlanForm::Answers => {
+            let outcome = apply(alloc, &zone, update)?;
+            push_serial(text, &outcome.zone)?;
+            let lines = answer_lines(alloc, zone, outcome.zone)?;
+            text.push_str(&lines)
+        }
+    }
 }
 
 /// What the office would answer to an update of a zone, in lines. The only error is out of memory.
-fn planned(alloc: Global, asker: &Asker, zone: Zone, update: &Update) -> Result<String, AllocError>
-    ensures { IfOk result (λ text. string_bytes text ≡ planned (asker_in asker.now) zone update.now) }
+fn planned(
+    alloc: Global,
+    asker: &Asker,
+    form: PlanForm,
+    asked: ZoneUpdate,
+) -> Result<String, AllocError>
+    ensures { IfOk result (λ text. IsPlanText form (asker_in asker.now) (zone_update asked) (string_bytes text)) }
 {
-    let (reply, change) = plan(alloc, &asker.policy, &asker.caller, &zone, update)?;
+    let ZoneUpdate { zone, update } = asked;
+    let (reply, change) = plan(alloc, &asker.policy, &asker.caller, &zone, &update)?;
     let mut text = reply_line(alloc, &reply)?;
     if let UpdateReply::NoError = reply {
         push_change(&mut text, &change)?;
-        push_serial(alloc, &mut text, zone, update)?;
+        push_after(alloc, &mut text, form, zone, &update)?;
     }
     Ok(text)
 }
 
-/// What the office would answer to the update of an input, whose octets are given back, of its zone.
-fn plan_behind(alloc: Global, asker: &Asker, input: Vec<u8>) -> Result<String, LineFault>
-    ensures { Gives string_bytes result (plan_behind (asker_in asker.now) input.items) }
+/// The zone and the update of an input, whose octets are given back.
+fn zone_update_in(alloc: Global, input: Vec<u8>) -> Result<ZoneUpdate, LineFault>
+    ensures { Gives zone_update result (zone_update_in input.items) }
 {
     let InputRead { records, update } = read_parts(alloc, input)?;
     let zone = zone_of_records(alloc, records)?;
-    Ok(planned(alloc, asker, zone, &update?)?)
+    Ok(ZoneUpdate {
+        zone,
+        update: update?,
+    })
 }
 
-/// The same of what a reader gives.
-fn answer<R: Input>(alloc: Global, asker: &Asker, reader: &mut R) -> Result<String, LineFault>
-    ensures { GivesOf string_bytes (R.left reader.old) (plan_text (asker_in asker.now)) result (R.fine reader.old reader.new) (R.failed reader.old reader.new) }
+/// The zone and the update that a reader gives.
+fn read_zone_update<R: Input>(alloc: Global, reader: &mut R) -> Result<ZoneUpdate, LineFault>
+    ensures { GivesOf zone_update (R.left reader.old) zone_update_read result (R.fine reader.old reader.new) (R.failed reader.old reader.new) }
 {
     let input = read_input(alloc, reader)?;
-    plan_behind(alloc, asker, input)
+    zone_update_in(alloc, input)
 }
 
-/// The task `plan`, once the policy was read: to read a master file, a line `--` and items of an update, and to write what the office
-/// would answer.
-impl Task for Asker {
-    ghost answer = { λ a. plan_text (asker_in a) };
+/// What the office would answer to the update of the zone that a reader gives.
+fn answer<R: Input>(
+    alloc: Global,
+    asker: &Asker,
+    form: PlanForm,
+    reader: &mut R,
+) -> Result<String, LineFault>
+    ensures { GivesText string_bytes (IsPlanText form (asker_in asker.now)) zone_update_read (R.left reader.old) result (R.fine reader.old reader.new)
+        (R.failed reader.old reader.new) }
+{
+    let asked = read_zone_update(alloc, reader)?;
+    Ok(planned(alloc, asker, form, asked)?)
+}
 
-    fn run<R: Input, W: Sink>(
-        self,
-        alloc: Global,
-        reader: &mut R,
-        writer: &mut W,
-    ) -> Result<(), JobFault> {
-        write_answer(alloc, writer, answer(alloc, &self, reader))
-    }
+/// Reads a master file, a line `--` and items of an update, and writes what the office would answer. On a failure, a line tells why.
+fn write_plan<R: Input, W: Sink>(
+    alloc: Global,
+    asker: Asker,
+    form: PlanForm,
+    reader: &mut R,
+    writer: &mut W,
+) -> Result<(), JobFault>
+    ensures { Told (IsPlanText form (asker_in asker)) zone_update_read (R.left reader.old) (W.contents writer.old) (W.contents writer.new) result
+        (R.fine reader.old reader.new) (R.failed reader.old reader.new) (W.failures writer.old) (W.failures writer.new) }
+{
+    write_answer(alloc, writer, answer(alloc, &asker, form, reader))
 }
 
 /// The caller of a word, and the policy that a reader gives. On a failure, a line tells why.
@@ -152,27 +201,29 @@ fn first_asker<R: Input, W: Sink>(
 }
 
 /// Writes what the office would answer to an update of a zone by a caller: the reply in words, as a receipt has it; and of an update that
-/// would be made the records that go, after `-`, those that come, after `+`, and the serial. One input is the policy, and another the
+/// would be made the records that go, after `-`, those that come, after `+`, and the serial; and in a form the lines of the questions that a server answers otherwise then, as
+/// `do_diff` writes them. One input is the policy, and another the
 /// master file of the zone, a line `--` and the items. Otherwise one line tells the refusal that comes first: of the caller, that the
 /// policy is too large, of the policy; and of the other input, which is read after it, that it is too large, that it has no divider, of
 /// the master file, of its records as a zone, of the items.
 pub fn do_plan<R: Input, N: Input, W: Sink>(
     alloc: Global,
-    caller: &str,
+    what: (&str, PlanForm),
     policy: &mut R,
     input: &mut N,
     writer: &mut W,
 ) -> Result<(), PlanFault>
-    ensures { IsPlanned caller.now
+    ensures { IsPlanned what.entry.1 what.entry.0.now
         (record { left = R.left policy.old; fine = R.fine policy.old policy.new; failed = R.failed policy.old policy.new })
         (record { left = N.left input.old; fine = N.fine input.old input.new; failed = N.failed input.old input.new })
         (W.contents writer.old) (W.contents writer.new) result (W.failures writer.old) (W.failures writer.new) }
 {
+    let (caller, form) = what;
     let asker = match first_asker(alloc, caller, policy, writer) {
         Ok(asker) => asker,
         Err(fault) => return Err(PlanFault::Policy(fault)),
     };
-    match asker.run(alloc, input, writer) {
+    match write_plan(alloc, asker, form, input, writer) {
         Ok(()) => Ok(()),
         Err(fault) => Err(PlanFault::Input(fault)),
     }
