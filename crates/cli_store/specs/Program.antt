@@ -155,7 +155,7 @@ EndsZones a i policy reader path o status =
     ((path ≢ codes "-") × IsUnread i × EndsZonesBy a policy reader (named a path) o status)
     ⊎ ((path ≡ codes "-") × EndsZonesBy a policy reader (standard i) o status)
 
--- The items between the zones of two files: a path that is `-` is standard input, of which nothing is left for the second file where the
+-- What a diff prints of the zones of two files: a path that is `-` is standard input, of which nothing is left for the second file where the
 -- first is it too. Where neither is, standard input is not read.
 abbrev pub DiffersBy : {H : Type 0} → Around H → Reading → DiffForm → List ℕ → ZoneFiles → Writing → Result (Unit {0}) DiffFault → Type 0
 DiffersBy a i form word files o outcome =
@@ -207,7 +207,7 @@ TextJobEnds a i o (text_job.Request w) status = EndsTask i.left (i.after ≡ i.b
 TextJobEnds a i o (text_job.Rights w) status =
     IsUnread i × EndsTask (a.file w.policy.now) ⊤ (a.unreadable w.policy.now) (rights_text w.asked) o status
 TextJobEnds a i o (text_job.Plan w) status =
-    Ends (λ outcome. IsPlanned w.caller.now (named a w.policy.now) (standard i) o.old o.new outcome o.before o.after) status
+    Ends (λ outcome. IsPlanned w.form w.caller.now (named a w.policy.now) (standard i) o.old o.new outcome o.before o.after) status
 TextJobEnds a i o (text_job.Check w) status = CheckEnds a i o w status
 TextJobEnds a i o (text_job.Answer w) status = AnswerEnds a i w o status
 TextJobEnds a i o (text_job.Reverse w) status = EndsCheckOf a i (Reverse w.origin) w.file.now o status

@@ -18,7 +18,7 @@ use Rattle.store_faults.specs.StoreFaults.{IsFailure}
 use Rattle.office_store.specs.Holds.{HoldsState}
 use Rattle.office_store.specs.Queries.{AsksOnly}
 use Rattle.cli_core.specs.declared.job.ZoneForm.{ZoneForm}
-use Rattle.cli_core.specs.declared.job.DiffForm.TheVariants.{Guarded}
+use Rattle.cli_core.specs.declared.job.ItemForm.TheVariants.{Guarded}
 use Rattle.cli_core.specs.declared.job.GuardScope.TheVariants.{Sets}
 use Rattle.cli_core.specs.declared.refusal.Refusal.{Refusal}
 use Rattle.cli_core.specs.declared.refusal.Refusal.TheVariants.{NoChange}

@@ -20,8 +20,8 @@ use crate::zone_blame::blame;
 use crate::zone_undo::undo;
 use crate::zones::import;
 use cli_core::{
-    Answer, Check, DiffForm, ImportList, Input, Job, JobFault, NO_MEMORY_LINE, RequestForm,
-    StoreJob, TextJob, WordsFault, ZoneFiles, read_words, write_text,
+    Answer, Check, DiffForm, ImportList, Input, Job, JobFault, NO_MEMORY_LINE, PlanForm,
+    RequestForm, StoreJob, TextJob, WordsFault, ZoneFiles, read_words, write_text,
 };
 use cli_text::{
     AnswerFault, Apply, DiffFault, Findings, Request, Split, Subject, Task, do_answers, do_changes,
@@ -272,7 +272,7 @@ fn is_standard(path: &str) -> bool
     path == "-"
 }
 
-/// Writes the items between the zones of two files. A path that is `-` is standard input, of which nothing is left for the second file
+/// Writes what a diff prints of the zones of two files. A path that is `-` is standard input, of which nothing is left for the second file
 /// where the first is it too.
 fn diff<M: Surroundings, R: Source, W: Sink>(
     around: &M,
@@ -404,12 +404,12 @@ fn answer<M: Surroundings, R: Source, W: Sink>(
 fn plan<M: Surroundings, R: Source, W: Sink>(
     around: &M,
     path: &str,
-    caller: &str,
+    what: (&str, PlanForm),
     input: &mut R,
     output: &mut W,
 ) -> ExitCode
     ensures { Ends
-        (λ outcome. IsPlanned caller.now (named (M.around around.now) path.now)
+        (λ outcome. IsPlanned what.entry.1 what.entry.0.now (named (M.around around.now) path.now)
         (standard (record { left = R.remaining input.old; rest = R.remaining input.new; before = R.failures input.old; after = R.failures input.new }))
         (W.contents output.old) (W.contents output.new) outcome (W.failures output.old) (W.failures output.new))
         (exit_status result) }
@@ -417,7 +417,7 @@ fn plan<M: Surroundings, R: Source, W: Sink>(
     let mut policy = NamedFile { around, path };
     ended(
         around,
-        do_plan(around.alloc(), caller, &mut policy, input, output),
+        do_plan(around.alloc(), what, &mut policy, input, output),
     )
 }
 
@@ -450,7 +450,10 @@ pub fn do_text_job<M: Surroundings, R: Source, W: Sink>(
             };
             do_task(around, words.asked, &mut policy, output)
         }
-        TextJob::Plan(words) => plan(around, words.policy, words.caller, input, output),
+        TextJob::Plan(words) => {
+            let what = (words.caller, words.form);
+            plan(around, words.policy, what, input, output)
+        }
         TextJob::Check(words) => check_job(around, words, input, output),
         TextJob::Answer(words) => answer(around, words, input, output),
         TextJob::Reverse(words) => {

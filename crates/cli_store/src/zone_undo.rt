@@ -12,7 +12,7 @@ use crate::store_file::StorePath;
 use crate::table_job::asked_by;
 use crate::zone_history::{HistoryOf, ZoneHistory};
 use crate::zones::report;
-use cli_core::{DiffForm, GuardScope, JobFault, LineFault, Refusal, Undo, write_refusal};
+use cli_core::{GuardScope, ItemForm, JobFault, LineFault, Refusal, Undo, write_refusal};
 use cli_text::{items_between, read_name};
 use dns_master::Sink;
 use dns_names::Name;
@@ -37,7 +37,7 @@ fn undo_between(
     }
     let old = history.zone_after(alloc, origin, last)?;
     let new = history.zone_after(alloc, origin, first - 1)?;
-    let form = DiffForm::Guarded(GuardScope::Sets);
+    let form = ItemForm::Guarded(GuardScope::Sets);
     Ok(items_between(alloc, form, &old, &new)?)
 }
 

@@ -36,11 +36,12 @@ pub fn push_command_answer(
         | "diff-guarded"
         | "edit-guarded"
         | "diff-guarded-sets"
+        | "diff-answers"
         | "edit-guarded-sets"
         | "diff-reads"
         | "diff-write" => { push_diff(alloc, row, answer) }
         "answers" | "answers-reads" => push_answers(alloc, row, answer),
-        "plan" | "plan-reads" | "plan-write" => push_plan(alloc, row, answer),
+        "plan" | "plan-answers" | "plan-reads" | "plan-write" => push_plan(alloc, row, answer),
         "expect" | "expect-reads" => push_expect(alloc, row, answer),
         "beside" | "beside-reads" => push_zones(alloc, row, answer),
         "against" | "against-reads" | "against-write" => push_against(alloc, row, answer),

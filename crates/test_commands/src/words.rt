@@ -1,9 +1,9 @@
 //! What the words of a command line ask for.
 
 use cli_core::{
-    Advice, Answer, Check, DiffForm, Existing, GuardScope, Job, LogChoice, QuestionWords,
-    RequestForm, RuleChoice, Service, StoreJob, StoredZone, TextForm, TextJob, WordsFault,
-    ZoneFiles, ZoneForm, ZoneRules, read_words,
+    Advice, Answer, Check, DiffForm, Existing, GuardScope, ItemForm, Job, LogChoice, PlanForm,
+    QuestionWords, RequestForm, RuleChoice, Service, StoreJob, StoredZone, TextForm, TextJob,
+    WordsFault, ZoneFiles, ZoneForm, ZoneRules, read_words,
 };
 use std::alloc::{AllocError, Global};
 use test_rows::Row;
@@ -89,7 +89,9 @@ fn push_text_job(alloc: Global, job: &TextJob<'_>, answer: &mut Vec<u8>) -> Resu
             push_given("request", words.id, request_text(words.form), answer)
         }
         TextJob::Rights(words) => push_question(words.policy, &words.asked, answer),
-        TextJob::Plan(words) => push_plan(words.policy, words.caller, answer),
+        TextJob::Plan(words) => {
+            push_plan(words.policy, words.caller, plan_text(words.form), answer)
+        }
         TextJob::Check(words) => push_check(alloc, words, answer),
         TextJob::Answer(words) => push_inquiry(words, answer),
         TextJob::Reverse(words) => {
@@ -237,8 +239,20 @@ fn push_diff(
     )
 }
 
-fn push_plan(policy: &str, caller: &str, answer: &mut Vec<u8>) -> Result<(), AllocError> {
-    push_all(&["plan (", policy, ") (", caller, ")"], answer)
+fn push_plan(
+    policy: &str,
+    caller: &str,
+    end: &str,
+    answer: &mut Vec<u8>,
+) -> Result<(), AllocError> {
+    push_all(&["plan (", policy, ") (", caller, ")", end], answer)
+}
+
+fn plan_text(form: PlanForm) -> &'static str {
+    match form {
+        PlanForm::Records => "",
+        PlanForm::Answers => " answers",
+    }
 }
 
 fn request_text(form: RequestForm) -> &'static str {
@@ -271,9 +285,10 @@ fn push_named(name: &str, given: Option<&str>, answer: &mut Vec<u8>) -> Result<(
 
 fn diff_text(form: DiffForm) -> &'static str {
     match form {
-        DiffForm::Bare => "",
-        DiffForm::Guarded(GuardScope::Names) => " guarded",
-        DiffForm::Guarded(GuardScope::Sets) => " guarded by sets",
+        DiffForm::Items(ItemForm::Bare) => "",
+        DiffForm::Items(ItemForm::Guarded(GuardScope::Names)) => " guarded",
+        DiffForm::Items(ItemForm::Guarded(GuardScope::Sets)) => " guarded by sets",
+        DiffForm::Answers => " answers",
     }
 }
 

@@ -2,7 +2,7 @@
 
 use crate::commands::devices::{Does, Manner};
 use crate::commands::trials::{Devices, Trial, tried};
-use cli_core::{DiffForm, GuardScope};
+use cli_core::{DiffForm, GuardScope, ItemForm};
 use cli_text::{Apply, DiffFault, do_diff};
 use dns_master::{Sink, Source};
 use std::alloc::{AllocError, Global};
@@ -29,7 +29,7 @@ struct Manners {
 impl Manners {
     /// The operations alone, and devices that never fail.
     const SOUND: Manners = Manners {
-        form: DiffForm::Bare,
+        form: DiffForm::Items(ItemForm::Bare),
         old: Manner::SOUND,
         new: Manner::SOUND,
         writing: Manner::SOUND,
@@ -37,18 +37,24 @@ impl Manners {
 
     /// Prerequisites and operations, and devices that never fail.
     const GUARDED: Manners = Manners {
-        form: DiffForm::Guarded(GuardScope::Names),
+        form: DiffForm::Items(ItemForm::Guarded(GuardScope::Names)),
         ..Manners::SOUND
     };
 
     /// Prerequisites on sets only, and devices that never fail.
     const GUARDED_BY_SETS: Manners = Manners {
-        form: DiffForm::Guarded(GuardScope::Sets),
+        form: DiffForm::Items(ItemForm::Guarded(GuardScope::Sets)),
+        ..Manners::SOUND
+    };
+
+    /// The questions that are answered otherwise, and devices that never fail.
+    const ANSWERS: Manners = Manners {
+        form: DiffForm::Answers,
         ..Manners::SOUND
     };
 }
 
-/// To write the items between two zones of an origin, in a form.
+/// To write what a diff prints of two zones of an origin, in a form.
 #[derive(Clone, Copy)]
 struct Differs<'a>(&'a str, DiffForm);
 
@@ -117,9 +123,9 @@ fn applied(alloc: Global, zone: &[u8], items: &[u8]) -> Result<Vec<u8>, AllocErr
 /// A device whose first call fails.
 const FAILING: Manner = Manner { most: 64, fails: 1 };
 
-/// Appends the answer to a row of a diff, of operations alone or with prerequisites: what it prints; what `apply` makes of the old zone
-/// and the items; what is printed where the
-/// first read of each file fails; and how much is printed where each of some writes fails.
+/// Appends the answer to a row of a diff, of operations alone or with prerequisites, or of answers: what it prints; what `apply` makes of
+/// the old zone and the items; what is printed where the first read of each file fails; and how much is printed where each of some writes
+/// fails.
 pub fn push_diff(alloc: Global, row: &Row<'_>, answer: &mut Vec<u8>) -> Result<(), AllocError> {
     let zones = TwoZones::of(text_of(&row.text), &row.body);
     match row.verb {
@@ -128,6 +134,7 @@ pub fn push_diff(alloc: Global, row: &Row<'_>, answer: &mut Vec<u8>) -> Result<(
         "diff-guarded" => push_run(alloc, zones, Manners::GUARDED, answer),
         "edit-guarded-sets" => push_edited(alloc, zones, Manners::GUARDED_BY_SETS, answer),
         "diff-guarded-sets" => push_run(alloc, zones, Manners::GUARDED_BY_SETS, answer),
+        "diff-answers" => push_run(alloc, zones, Manners::ANSWERS, answer),
         "diff-reads" => push_failed_reads(alloc, zones, answer),
         "diff-write" => push_failed_write(alloc, zones, answer),
         _ => push_run(alloc, zones, Manners::SOUND, answer),

@@ -3,6 +3,7 @@
 use crate::commands::devices::Manner;
 use crate::commands::diffs::push_outcome;
 use crate::commands::trials::{Devices, Trial, tried};
+use cli_core::PlanForm;
 use cli_text::{PlanFault, do_plan};
 use dns_master::{Sink, Source};
 use std::alloc::{AllocError, Global};
@@ -24,9 +25,9 @@ impl<'a> TwoInputs<'a> {
     }
 }
 
-/// To write what the office would answer to a caller.
+/// To write what the office would answer to a caller, in a form.
 #[derive(Clone, Copy)]
-struct Plans<'a>(&'a str);
+struct Plans<'a>(&'a str, PlanForm);
 
 impl Trial for Plans<'_> {
     type Outcome = Result<(), PlanFault>;
@@ -38,25 +39,50 @@ impl Trial for Plans<'_> {
         second: &mut N,
         writer: &mut W,
     ) -> Result<(), PlanFault> {
-        do_plan(alloc, self.0, first, second, writer)
+        do_plan(alloc, (self.0, self.1), first, second, writer)
     }
 }
 
 /// A device whose first call fails.
 const FAILING: Manner = Manner { most: 64, fails: 1 };
 
-/// Appends the answer to a row of a plan: what is printed for the caller; the same where the first read of each input fails; or where the
+/// Appends the answer to a row of a plan: what is printed for the caller, or that with answers; the same where the first read of each input fails; or where the
 /// first write does.
 pub fn push_plan(alloc: Global, row: &Row<'_>, answer: &mut Vec<u8>) -> Result<(), AllocError> {
     let sound = Manner::SOUND;
     match row.verb {
         "plan-reads" => {
-            push_planned(alloc, row, [FAILING, sound, sound], answer)?;
+            push_planned(
+                alloc,
+                row,
+                PlanForm::Records,
+                [FAILING, sound, sound],
+                answer,
+            )?;
             answer.push(b'\n')?;
-            push_planned(alloc, row, [sound, FAILING, sound], answer)
+            push_planned(
+                alloc,
+                row,
+                PlanForm::Records,
+                [sound, FAILING, sound],
+                answer,
+            )
         }
-        "plan-write" => push_planned(alloc, row, [sound, sound, FAILING], answer),
-        _ => push_planned(alloc, row, [sound, sound, sound], answer),
+        "plan-write" => push_planned(
+            alloc,
+            row,
+            PlanForm::Records,
+            [sound, sound, FAILING],
+            answer,
+        ),
+        "plan-answers" => push_planned(
+            alloc,
+            row,
+            PlanForm::Answers,
+            [sound, sound, sound],
+            answer,
+        ),
+        _ => push_planned(alloc, row, PlanForm::Records, [sound, sound, sound], answer),
     }
 }
 
@@ -64,6 +90,7 @@ pub fn push_plan(alloc: Global, row: &Row<'_>, answer: &mut Vec<u8>) -> Result<(
 fn push_planned(
     alloc: Global,
     row: &Row<'_>,
+    form: PlanForm,
     manners: [Manner; 3],
     answer: &mut Vec<u8>,
 ) -> Result<(), AllocError> {
@@ -74,7 +101,7 @@ fn push_planned(
         second: update.device(Vec::from_slice(alloc, inputs.update.as_bytes())?),
         writer: writing.device(Vec::new(alloc)),
     };
-    let (printed, done) = tried(alloc, Plans(text_of(&row.text)), devices);
+    let (printed, done) = tried(alloc, Plans(text_of(&row.text), form), devices);
     answer.extend_from_slice(&printed)?;
     push_outcome(alloc, done, answer)
 }
