@@ -7,8 +7,9 @@
 //! and 17, and `frames` how many frames its log has. What the commands print is printed: `import ORIGIN` and `replace ORIGIN` of the master
 //! file below, `export ORIGIN` and `relative ORIGIN`, `migrate`, and `serve ADDRESS` for no connection. `listens ADDRESS` prints that
 //! without the port, and `taken` what `serve` prints at an address where another one listens. `run WORDS`, with bars between the words,
-//! prints what the program writes of the body, and its exit status; `STORE` and `POLICY` are the two paths. `request WORDS` prints what it
-//! writes without the port at which it listens, and what a client is answered that calls it there with the body.
+//! prints what the program writes of the body, and its exit status; `STORE` and `POLICY` are the two paths. `listed WORDS` does so with the
+//! path of the policy after each line of the body. `request WORDS` prints what it writes without the port at which it listens, and what a
+//! client is answered that calls it there with the body.
 //!
 //! `callers`: an office over sockets. `listen` begins with no callers. `call` connects and sends what stands below and nothing after
 //! it, `begin` leaves that side open, and `leave N` sends the same N times and is gone. `answer N` serves N connections from a table in

@@ -50,6 +50,7 @@ impl<'a> Files<'a> {
             "comment" => self.write_comment(&row.text),
             "sql" => execute(self.rt, self.store.as_str(), &row.body),
             "run" => self.run(row, answer),
+            "listed" => self.run_listed(row, answer),
             "request" => self.request(row, answer),
             _ => self.push_told(row, answer),
         }
@@ -66,6 +67,19 @@ impl<'a> Files<'a> {
     fn run<'x>(&'x self, row: &'x Row<'_>, answer: &mut Vec<u8>) -> Result<()> {
         let words = self.words(text_of(&row.text))?;
         Ok(push_run(self.rt, &words, &row.body, answer)?)
+    }
+
+    /// The same of an input whose lines are those of the body, each with the path of the policy after it.
+    fn run_listed<'x>(&'x self, row: &'x Row<'_>, answer: &mut Vec<u8>) -> Result<()> {
+        let words = self.words(text_of(&row.text))?;
+        let mut input = Vec::new(self.rt.alloc());
+        for line in text_of(&row.body).lines() {
+            input.extend_from_slice(line.as_bytes())?;
+            input.push(b' ')?;
+            input.extend_from_slice(self.policy.as_bytes())?;
+            input.push(b'\n')?;
+        }
+        Ok(push_run(self.rt, &words, &input, answer)?)
     }
 
     /// Appends what the program does with the words of a row while a client calls it with the body, without the port at which it listens,
