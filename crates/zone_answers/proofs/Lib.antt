@@ -8,6 +8,7 @@ pub mod ZoneLemmas
 pub mod SamenessLemmas
 pub mod UnderLemmas
 pub mod RenamedLemmas
+pub mod AlikeLemmas
 pub mod KnownLemmas
 pub mod ChangeLemmas
 pub mod RowOrderLemmas

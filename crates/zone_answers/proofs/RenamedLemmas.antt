@@ -239,3 +239,22 @@ module _ (origin : Name) (rs : List Record) (asked : QueryType) (top : origin �
   from_under =
       first_renamed origin rs (front ++ label ∷ encloser) [] asked top one back (1 + length rs) (front ++ label ∷ encloser) (found_under origin rs encloser asked) finds
       ∙ ap (renamed (front ++ label ∷ encloser) []) (sym by_under)
+
+-- ---- two names below one encloser
+
+module _ (origin : Name) (rs : List Record) (asked : QueryType) (top : origin ≢ []) (one : HasOneAlias rs) (encloser : Name)
+    (front : Name) (label : List ℕ) (gone : ¬ Exists rs (label ∷ encloser)) (inside : IsWithin (front ++ label ∷ encloser) origin)
+    (never : (r : Record) → Contains rs r → ¬ (r.rdata ≡ variants.Cname (front ++ label ∷ encloser)))
+    (front' : Name) (label' : List ℕ) (gone' : ¬ Exists rs (label' ∷ encloser)) (inside' : IsWithin (front' ++ label' ∷ encloser) origin)
+    (never' : (r : Record) → Contains rs r → ¬ (r.rdata ≡ variants.Cname (front' ++ label' ∷ encloser))) where
+  both_aside : AreAside rs (front ++ label ∷ encloser) (front' ++ label' ∷ encloser)
+  both_aside r [] here e = inl refl
+  both_aside r (l ∷ ls) here e = inr (λ f. never r here (e ∙ ap variants.Cname f), λ f. never' r here (e ∙ ap variants.Cname f))
+
+  pub alike : answer_to origin rs (front' ++ label' ∷ encloser) asked
+      ≡ renamed (front ++ label ∷ encloser) (front' ++ label' ∷ encloser) (answer_to origin rs (front ++ label ∷ encloser) asked)
+  alike =
+      by_under origin rs asked top one front' label' encloser gone' inside' never'
+      ∙ first_renamed origin rs (front ++ label ∷ encloser) (front' ++ label' ∷ encloser) asked top one both_aside (1 + length rs) (front ++ label ∷ encloser) (found_under origin rs encloser asked)
+      (finds origin rs asked top one front label encloser gone inside never)
+      ∙ ap (renamed (front ++ label ∷ encloser) (front' ++ label' ∷ encloser)) (sym (by_under origin rs asked top one front label encloser gone inside never))

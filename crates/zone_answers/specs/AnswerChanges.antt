@@ -1,14 +1,15 @@
 -- Which questions two zones of one origin answer otherwise, over all names, of which infinitely many are below a wildcard.
-use Rattle.std.specs.Prelude.{◌≡◌, ◌≢◌, ◌⊎◌, ℕ, List, [], ◌∷◌, ◌++◌, map, Bool}
+use Rattle.std.specs.Prelude.{◌≡◌, ◌≢◌, ◌⊎◌, ℕ, List, [], ◌∷◌, ◌++◌, map, Bool, if◌then◌else◌}
 use Rattle.std.specs.List.{Contains, filter}
 use Rattle.std.specs.Ordering.{nat_cmp, on, then_cmp}
 use Rattle.std.specs.declared.cmp.Ordering.{Ordering}
 use Rattle.dns_names.specs.Labels.{IsWithin}
-use Rattle.dns_names.specs.Order.{canonical_cmp}
+use Rattle.dns_names.specs.Order.{canonical_cmp, same_name}
 use Rattle.dns_data.specs.declared.record.Record.{Record}
 use Rattle.dns_data.specs.declared.record_type.RecordType.TheVariants as types
 use Rattle.dns_data.specs.declared.rdata.Data.{Data}
 use Rattle.dns_data.specs.declared.rdata.Data.TheVariants as variants
+use Rattle.zone_core.specs.Views.{AreOfZone}
 use Rattle.zone_answers.specs.declared.query_type.QueryType.{QueryType}
 use Rattle.zone_answers.specs.declared.query_type.QueryType.TheVariants.{Kept, Any, Other}
 use Rattle.zone_answers.specs.declared.changes.QuestionGroup.{QuestionGroup}
@@ -91,3 +92,20 @@ place_in (Others encloser) = 1
 -- groups by their names in canonical order (RFC 4034 section 6.1)
 abbrev pub group_cmp : QuestionGroup → QuestionGroup → Ordering
 group_cmp = then_cmp (on name_in canonical_cmp) (on place_in nat_cmp)
+
+-- ---- names of one group
+
+-- an answer with a name in the place of another
+abbrev pub in_place_of : Name → Name → Name → Name
+in_place_of old new name = if same_name name old then new else name
+
+abbrev pub asked_for : Name → Name → AnswerOf → AnswerOf
+asked_for old new a = record a { answer = map (λ (r : Record). record r { owner = in_place_of old new r.owner }) a.answer }
+
+-- The names below one that a group has are answered alike, each by its own name, from any zone whose records the group counts.
+abbrev pub NamesOfGroupsAreAnsweredAlike : Type 0
+NamesOfGroupsAreAnsweredAlike =
+    (origin : Name) (rs counted : List Record) (encloser first second : Name) (asked : QueryType) (a : AnswerOf) → AreOfZone origin rs
+    → ((r : Record) → Contains rs r → Contains counted r)
+    → IsWithin first origin → IsIn counted (Others encloser) first → IsWithin second origin → IsIn counted (Others encloser) second
+    → IsAnswer origin rs first asked a → IsAnswer origin rs second asked (asked_for first second a)

@@ -1,6 +1,7 @@
 //! Laws of the definition. The functions do nothing: their contracts are the laws.
 
 ghost use Rattle.zone_answers.specs.AnswerLaws.{QuestionsHaveOneAnswer, AnswersAreOfZones, CutsRefer, MissingNamesAreNowhere};
+ghost use Rattle.zone_answers.specs.AnswerChanges.{NamesOfGroupsAreAnsweredAlike};
 
 /// Each question about a zone has one answer, and no other.
 pub fn questions_have_one_answer()
@@ -22,4 +23,9 @@ pub fn cuts_refer()
 /// applies, and no cut is at or above it (RFC 8020 section 2, RFC 4592 section 2.2).
 pub fn missing_names_are_nowhere()
     ensures { MissingNamesAreNowhere }
+{}
+
+/// The names below one that a group has are answered alike, each by its own name.
+pub fn names_of_groups_are_answered_alike()
+    ensures { NamesOfGroupsAreAnsweredAlike }
 {}
