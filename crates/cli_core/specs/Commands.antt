@@ -91,7 +91,7 @@ command_row command.Serve =
     (codes "serve", argument.Store ∷ argument.Policy ∷ argument.Listen ∷ argument.Connections ∷ argument.Patience ∷ argument.Longest ∷ argument.Memory ∷ [])
 command_row command.Check =
     (codes "check", argument.Subject ∷ argument.CheckedName ∷ argument.CheckedPolicy ∷ argument.Against ∷ argument.Zones ∷ argument.Reader ∷ argument.Isolated ∷ argument.CheckedOrigin ∷ argument.Only ∷ argument.Not ∷ argument.Server ∷ argument.Most ∷ argument.Warn ∷ [])
-command_row command.Answer = (codes "answer", argument.Origin ∷ argument.File ∷ argument.AskedName ∷ argument.AskedType ∷ [])
+command_row command.Answer = (codes "answer", argument.Origin ∷ argument.File ∷ argument.AskedName ∷ argument.AskedType ∷ argument.Json ∷ [])
 command_row command.Reverse = (codes "reverse", argument.Origin ∷ argument.File ∷ [])
 command_row command.Explain = (codes "explain", argument.Number ∷ argument.Json ∷ [])
 

@@ -142,7 +142,7 @@ asks_text (text_job.Check w) = asks_check w
 asks_text (text_job.Answer w) = (
   command.Answer,
   (argument.Origin, given w.origin.now) ∷ (argument.File, given w.file.now) ∷ (argument.AskedName, given w.name.now)
-      ∷ (argument.AskedType, text (option_map (λ t. t.now) w.asked)) ∷ [],
+      ∷ (argument.AskedType, text (option_map (λ t. t.now) w.asked)) ∷ (argument.Json, flag (is_json w.form)) ∷ [],
 )
 asks_text (text_job.Reverse w) = (command.Reverse, (argument.Origin, given w.origin.now) ∷ (argument.File, given w.file.now) ∷ [])
 asks_text (text_job.Explain w) =

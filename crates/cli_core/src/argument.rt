@@ -263,7 +263,7 @@ impl Argument {
             Argument::Json => &Row {
                 name: "json",
                 form: Form::Flag,
-                help: "As an array of JSON",
+                help: "As JSON",
             },
             Argument::Guard => &Row {
                 name: "guard",

@@ -6,10 +6,10 @@ ghost use Rattle.clap.specs.Words.{Text, first_of, found_of, one_of, rows_of};
 ghost use Rattle.cli_core.specs.Commands.{argument_name};
 ghost use Rattle.cli_core.specs.declared.argument.Argument.TheVariants as argument;
 ghost use Rattle.cli_core.specs.Values.{flag_if, number_if};
-ghost use Rattle.cli_core.specs.Jobs.{is_relative};
+ghost use Rattle.cli_core.specs.Jobs.{is_json, is_relative};
 
 use crate::argument::Argument;
-use crate::job::{StoredZone, ZoneForm};
+use crate::job::{StoredZone, TextForm, ZoneForm};
 use clap::ArgMatches;
 
 /// The text of an argument, where it has one.
@@ -56,6 +56,17 @@ pub(crate) fn zone_form_at(matches: &ArgMatches<'_>) -> ZoneForm
         ZoneForm::Relative
     } else {
         ZoneForm::Whole
+    }
+}
+
+/// As what a text is to be printed.
+pub(crate) fn text_form_at(matches: &ArgMatches<'_>) -> TextForm
+    ensures { is_json result ≡ flag_if (first_of (argument_name argument.Json) (rows_of (found_of matches.now))) }
+{
+    if flag_at(matches, Argument::Json) {
+        TextForm::Json
+    } else {
+        TextForm::Plain
     }
 }
 

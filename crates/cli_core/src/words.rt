@@ -130,7 +130,7 @@ fn reported(alloc: Global, words: &[&str], error: Error) -> WordsFault
 /// `serve --store PATH --policy PATH --listen ADDRESS:PORT [--connections N] [--patience SECONDS] [--longest SECONDS] [--memory MB]`;
 /// `check policy --policy PATH [--against PATH | --zones PATH [--reader CALLER]]`; `check expect [FILE] --policy PATH`; `check isolation --policy PATH --caller CALLER`;
 /// `check rights [NAME] --policy PATH`; `check zone --origin NAME [--only RULE | --not RULE] [--server SERVER] [--most N] [--warn]`;
-/// `answer --origin NAME FILE NAME [TYPE]`, where only one of file and name can be `-`, and a type is of a name;
+/// `answer --origin NAME FILE NAME [TYPE] [--json]`, where only one of file and name can be `-`, and a type is of a name;
 /// `reverse --origin NAME FILE`; and `explain [NUMBER] [--json]`. The words after a command may come in any order.
 /// `Help` comes where they ask for help or the version, and `Misused` where there is a mistake in them.
 pub fn read_words<'a>(alloc: Global, words: &'a [&'a str]) -> Result<Job<'a>, WordsFault>

@@ -177,13 +177,13 @@ requested Split word = split_text word
 -- what is answered to the questions of standard input, from the zone of a file; nothing is left there for a zone
 abbrev pub IsInquiredOf : {H : Type 0} → Around H → Reading → Answer → Writing → Result (Unit {0}) AnswerFault → Type 0
 IsInquiredOf a i w o outcome =
-    let inquired = λ (zone : InputOf). IsInquired w.origin.now (standard i) zone o.old o.new outcome o.before o.after in
+    let inquired = λ (zone : InputOf). IsInquired w.form w.origin.now (standard i) zone o.old o.new outcome o.before o.after in
     ((w.file.now ≢ codes "-") × inquired (named a w.file.now)) ⊎ ((w.file.now ≡ codes "-") × inquired ended)
 
 -- what is answered from the zone of a path: to one question, or where the name is `-`, to those of standard input
 abbrev pub AnswerEnds : {H : Type 0} → Around H → Reading → Answer → Writing → ℕ → Type 0
 AnswerEnds a i w o status =
-    ((w.name.now ≢ codes "-") × EndsTaskOf a i w.file.now (answer_text w.origin.now w.name.now (option_map (λ t. t.now) w.asked)) o status)
+    ((w.name.now ≢ codes "-") × EndsTaskOf a i w.file.now (answer_text w.form w.origin.now w.name.now (option_map (λ t. t.now) w.asked)) o status)
     ⊎ ((w.name.now ≡ codes "-") × Ends (λ outcome. IsInquiredOf a i w o outcome) status)
 
 -- A check reads the file of its policy, and of another against which it is checked, or standard input where that is a zone.

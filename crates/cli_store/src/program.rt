@@ -372,14 +372,15 @@ fn answers<M: Surroundings, R: Source, W: Sink>(
         (record { left = R.remaining input.old; rest = R.remaining input.new; before = R.failures input.old; after = R.failures input.new }) words.entry
         (record { old = W.contents output.old; new = W.contents output.new; before = W.failures output.old; after = W.failures output.new }) result }
 {
+    let what = (words.origin, words.form);
     if is_standard(words.file) {
-        return do_answers(around.alloc(), words.origin, input, &mut Ended, output);
+        return do_answers(around.alloc(), what, input, &mut Ended, output);
     }
     let mut zone = NamedFile {
         around,
         path: words.file,
     };
-    do_answers(around.alloc(), words.origin, input, &mut zone, output)
+    do_answers(around.alloc(), what, input, &mut zone, output)
 }
 
 /// Writes what a server answers from the zone of a path: to one question, or to those of standard input.

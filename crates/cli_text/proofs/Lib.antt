@@ -3,6 +3,7 @@ pub mod LineLemmas
 pub mod PartLemmas
 pub mod PlanLemmas
 pub mod QuestionLemmas
+pub mod AnswerObjectLemmas
 pub mod ReportLemmas
 pub mod OriginLemmas
 pub mod OriginLaws

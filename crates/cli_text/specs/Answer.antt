@@ -10,6 +10,8 @@ use Rattle.zone_core.specs.Sets.{listing}
 use Rattle.zone_core.specs.Zones.{ZoneOf}
 use Rattle.zone_answers.specs.Answers.{AnswerOf}
 use Rattle.zone_answers.specs.AnswerTests.{answer_to}
+use Rattle.cli_core.specs.declared.job.TextForm.{TextForm}
+use Rattle.cli_core.specs.declared.job.TextForm.TheVariants.{Plain, Json}
 use Rattle.cli_core.specs.declared.refusal.Refusal.{Refusal}
 use Rattle.cli_core.specs.declared.line_fault.JobFault.{JobFault}
 use Rattle.cli_core.specs.Inputs.{InputOf}
@@ -20,6 +22,7 @@ use Rattle.cli_text.specs.declared.answer_fault.AnswerFault.TheVariants.{Questio
 use Rattle.cli_text.specs.declared.questions.Inquiry.{Inquiry}
 use Rattle.cli_text.specs.QuestionViews.{inquiry_view}
 use Rattle.cli_text.specs.Canon.{zone_of_file}
+use Rattle.cli_text.specs.AnswerObjects.{answer_object}
 use Rattle.cli_text.specs.Questions.{QuestionOf, InquiryOf, inquiry_of, inquiry_in}
 
 -- ---- one answer
@@ -42,55 +45,60 @@ question_line q a = codes "; " ++ (name_text q.name ++ (32 ∷ (q.word ++ (32 �
 abbrev pub answer_lines : QuestionOf → AnswerOf → List ℕ
 answer_lines q a = question_line q a ++ (records_text a.answer ++ (records_text a.authority ++ records_text a.additional))
 
+-- an answer, as what it is printed
+abbrev pub answer_in_form : TextForm → QuestionOf → AnswerOf → List ℕ
+answer_in_form Plain q a = answer_lines q a
+answer_in_form Json q a = answer_object q a ++ 10 ∷ []
+
 -- ---- all of them
 
 -- what is printed of a question about a zone
-abbrev pub question_text : ZoneOf → QuestionOf → List ℕ
-question_text zone q = answer_lines q (answer_to zone.origin (listing zone.records) q.name q.asked)
+abbrev pub question_text : TextForm → ZoneOf → QuestionOf → List ℕ
+question_text form zone q = answer_in_form form q (answer_to zone.origin (listing zone.records) q.name q.asked)
 
-abbrev pub answers_text : ZoneOf → List QuestionOf → List ℕ
-answers_text zone qs = flat_map (question_text zone) qs
+abbrev pub answers_text : TextForm → ZoneOf → List QuestionOf → List ℕ
+answers_text form zone qs = flat_map (question_text form zone) qs
 
 -- what is printed of an inquiry about the zone of a master file
 abbrev pub answers_behind : InquiryOf → List ℕ → Result (List ℕ) Refusal
-answers_behind i text = zone_of_file i.origin text >>= λ zone. Ok (answers_text zone i.questions)
+answers_behind i text = zone_of_file i.origin text >>= λ zone. Ok (answers_text i.form zone i.questions)
 
 abbrev pub answers_of : InquiryOf → List ℕ → Result (List ℕ) Refusal
 answers_of i input = limited input >>= answers_behind i
 
 -- the question of words about the zone of an input
-abbrev pub answer_text : List ℕ → List ℕ → Option (List ℕ) → List ℕ → Result (List ℕ) Refusal
-answer_text origin name asked input = inquiry_of origin name asked >>= λ i. limited input >>= answers_behind i
+abbrev pub answer_text : TextForm → List ℕ → List ℕ → Option (List ℕ) → List ℕ → Result (List ℕ) Refusal
+answer_text form origin name asked input = inquiry_of form origin name asked >>= λ i. limited input >>= answers_behind i
 
 -- the questions of an input about the zone of a word that is its origin
-abbrev pub inquiry_read : List ℕ → List ℕ → Result InquiryOf Refusal
-inquiry_read word input = of_names (absolute_name word) >>= λ origin. limited input >>= inquiry_in origin
+abbrev pub inquiry_read : TextForm → List ℕ → List ℕ → Result InquiryOf Refusal
+inquiry_read form word input = of_names (absolute_name word) >>= λ origin. limited input >>= inquiry_in form origin
 
 -- ---- two inputs
 
 -- what is printed of the input that has the questions, by itself: nothing, if they are questions
-abbrev pub inquiry_text : List ℕ → List ℕ → Result (List ℕ) Refusal
-inquiry_text word input = inquiry_read word input >>= λ i. Ok []
+abbrev pub inquiry_text : TextForm → List ℕ → List ℕ → Result (List ℕ) Refusal
+inquiry_text form word input = inquiry_read form word input >>= λ i. Ok []
 
--- The word of the origin, what was left to read of the questions, what the writer held before and after, how it went, that the input did
+-- As what answers are printed, the word of the origin, what was left to read of the questions, what the writer held before and after, how it went, that the input did
 -- not fail, that it did, and the writer's failures before and after: the questions were read, and nothing is written; or their refusal is.
-abbrev pub IsInquiryRead : List ℕ → Option (List ℕ) → Option (List ℕ) → Option (List ℕ) → Result Inquiry JobFault → Type 0 → Type 0 → ℕ → ℕ → Type 0
-IsInquiryRead word left before after (Ok inquiry) fine failed writes writes_after =
-    Makes left (inquiry_read word) (Ok (inquiry_view inquiry)) × fine × (after ≡ before) × (writes_after ≡ writes)
-IsInquiryRead word left before after (Err fault) fine failed writes writes_after =
-    Answered left (inquiry_text word) before after (Err fault) fine failed writes writes_after
+abbrev pub IsInquiryRead : TextForm → List ℕ → Option (List ℕ) → Option (List ℕ) → Option (List ℕ) → Result Inquiry JobFault → Type 0 → Type 0 → ℕ → ℕ → Type 0
+IsInquiryRead form word left before after (Ok inquiry) fine failed writes writes_after =
+    Makes left (inquiry_read form word) (Ok (inquiry_view inquiry)) × fine × (after ≡ before) × (writes_after ≡ writes)
+IsInquiryRead form word left before after (Err fault) fine failed writes writes_after =
+    Answered left (inquiry_text form word) before after (Err fault) fine failed writes writes_after
 
 -- what is answered to questions that were read, from the zone
-abbrev pub IsZoneAsked : List ℕ → InputOf → InputOf → Option (List ℕ) → Option (List ℕ) → Result (Unit {0}) JobFault → ℕ → ℕ → Type 0
-IsZoneAsked word questions zone before after result writes writes_after =
-    (i : InquiryOf) × Makes questions.left (inquiry_read word) (Ok i) × questions.fine
+abbrev pub IsZoneAsked : TextForm → List ℕ → InputOf → InputOf → Option (List ℕ) → Option (List ℕ) → Result (Unit {0}) JobFault → ℕ → ℕ → Type 0
+IsZoneAsked form word questions zone before after result writes writes_after =
+    (i : InquiryOf) × Makes questions.left (inquiry_read form word) (Ok i) × questions.fine
     × Answered zone.left (answers_of i) before after result zone.fine zone.failed writes writes_after
 
--- The word of the origin, what is known of the questions and of the zone, what the writer held before and after, how it went, and the
+-- As what answers are printed, the word of the origin, what is known of the questions and of the zone, what the writer held before and after, how it went, and the
 -- writer's failures before and after: the questions were refused, or not read, and the zone was let be; or else they were answered.
-abbrev pub IsInquired : List ℕ → InputOf → InputOf → Option (List ℕ) → Option (List ℕ) → Result (Unit {0}) AnswerFault → ℕ → ℕ → Type 0
-IsInquired word questions zone before after (Err (Questions fault)) writes writes_after =
-    Answered questions.left (inquiry_text word) before after (Err fault) questions.fine questions.failed writes writes_after × zone.fine
-IsInquired word questions zone before after (Err (Zone fault)) writes writes_after =
-    IsZoneAsked word questions zone before after (Err fault) writes writes_after
-IsInquired word questions zone before after (Ok done) writes writes_after = IsZoneAsked word questions zone before after (Ok done) writes writes_after
+abbrev pub IsInquired : TextForm → List ℕ → InputOf → InputOf → Option (List ℕ) → Option (List ℕ) → Result (Unit {0}) AnswerFault → ℕ → ℕ → Type 0
+IsInquired form word questions zone before after (Err (Questions fault)) writes writes_after =
+    Answered questions.left (inquiry_text form word) before after (Err fault) questions.fine questions.failed writes writes_after × zone.fine
+IsInquired form word questions zone before after (Err (Zone fault)) writes writes_after =
+    IsZoneAsked form word questions zone before after (Err fault) writes writes_after
+IsInquired form word questions zone before after (Ok done) writes writes_after = IsZoneAsked form word questions zone before after (Ok done) writes writes_after

@@ -6,6 +6,7 @@ pub mod Rights
 pub mod Explain
 pub mod Questions
 pub mod QuestionViews
+pub mod AnswerObjects
 pub mod Answer
 pub mod ZoneCheck
 pub mod RightsCheck

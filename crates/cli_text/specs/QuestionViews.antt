@@ -8,4 +8,4 @@ abbrev pub question_view : Question → QuestionOf
 question_view q = record { name = q.name; word = q.word.items; asked = q.asked }
 
 abbrev pub inquiry_view : Inquiry → InquiryOf
-inquiry_view i = record { origin = i.origin; questions = map question_view i.questions.items }
+inquiry_view i = record { origin = i.origin; form = i.form; questions = map question_view i.questions.items }

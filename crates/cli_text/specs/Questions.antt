@@ -14,6 +14,7 @@ use Rattle.update_lines.specs.Reading.{EntryLine}
 use Rattle.update_lines.specs.Views.{gathered}
 use Rattle.cli_core.specs.declared.word_fault.WordFault.{WordFault}
 use Rattle.cli_core.specs.declared.word_fault.WordFault.TheVariants as word
+use Rattle.cli_core.specs.declared.job.TextForm.{TextForm}
 use Rattle.cli_core.specs.declared.refusal.Refusal.{Refusal}
 use Rattle.cli_core.specs.declared.refusal.Refusal.TheVariants.{Line, TypeNotKept}
 use Rattle.cli_core.specs.LineFaults.{◌>>=◌, or_refused, of_names, of_masters}
@@ -83,16 +84,17 @@ abbrev pub type_word : Option (List ℕ) → List ℕ
 type_word None = address
 type_word (Some word) = word
 
--- a zone's origin, and questions
+-- a zone's origin, as what answers are printed, and questions
 pub record InquiryOf : Type 0 where
   pub origin : List (List ℕ)
+  pub form : TextForm
   pub questions : List QuestionOf
 
 -- the question of the words of an origin, a name and a type
-abbrev pub inquiry_of : List ℕ → List ℕ → Option (List ℕ) → Result InquiryOf Refusal
-inquiry_of origin name asked =
+abbrev pub inquiry_of : TextForm → List ℕ → List ℕ → Option (List ℕ) → Result InquiryOf Refusal
+inquiry_of form origin name asked =
     of_names (absolute_name origin) >>= λ zone. of_names (absolute_name name) >>= λ owner.
-    or_refused (query_type_of (type_word asked)) TypeNotKept >>= λ t. Ok (record { origin = zone; questions = question owner (type_word asked) t ∷ [] })
+    or_refused (query_type_of (type_word asked)) TypeNotKept >>= λ t. Ok (record { origin = zone; form = form; questions = question owner (type_word asked) t ∷ [] })
 
 -- ---- of lines
 
@@ -125,5 +127,5 @@ questions_in (e ∷ es) = question_of e.line e.items >>= λ q. questions_in es >
 abbrev pub questions_of : List ℕ → Result (List QuestionOf) Refusal
 questions_of text = of_masters (tokens_of text) >>= λ ts. questions_in (gathered ts)
 
-abbrev pub inquiry_in : List (List ℕ) → List ℕ → Result InquiryOf Refusal
-inquiry_in origin text = questions_of text >>= λ qs. Ok (record { origin = origin; questions = qs })
+abbrev pub inquiry_in : TextForm → List (List ℕ) → List ℕ → Result InquiryOf Refusal
+inquiry_in form origin text = questions_of text >>= λ qs. Ok (record { origin = origin; form = form; questions = qs })

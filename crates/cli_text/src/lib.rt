@@ -4,6 +4,7 @@
 
 mod answer;
 mod answer_fault;
+mod answer_object;
 mod apply;
 mod canon;
 mod changed_answers;

@@ -14,7 +14,7 @@ ghost use Rattle.cli_text.specs.Questions.{unquoted, name_on, query_type_of, que
 
 use crate::canon::read_name;
 use crate::query_type::query_type_of;
-use cli_core::{LineFault, Refusal, WordFault};
+use cli_core::{Answer, LineFault, Refusal, TextForm, WordFault};
 use dns_data::{Item, RecordType};
 use dns_master::{Token, tokens};
 use dns_names::{Name, NameFault};
@@ -40,6 +40,8 @@ pub(crate) struct Question {
 #[derive(Drop)]
 pub(crate) struct Inquiry {
     pub(crate) origin: Name,
+    /// As what the answers are printed.
+    pub(crate) form: TextForm,
     pub(crate) questions: Vec<Question>,
 }
 
@@ -185,11 +187,20 @@ fn questions_of(alloc: Global, text: &[u8]) -> Result<Vec<Question>, LineFault>
 
 /// Questions of a text about the zone of an origin: an entry of a master file (RFC 1035 section 5.1) for each, which has a name, and a
 /// type or none.
-pub(crate) fn inquiry_in(alloc: Global, origin: Name, text: &[u8]) -> Result<Inquiry, LineFault>
-    ensures { Gives inquiry_view result (inquiry_in origin text.now) }
+pub(crate) fn inquiry_in(
+    alloc: Global,
+    origin: Name,
+    form: TextForm,
+    text: &[u8],
+) -> Result<Inquiry, LineFault>
+    ensures { Gives inquiry_view result (inquiry_in form origin text.now) }
 {
     let questions = questions_of(alloc, text)?;
-    Ok(Inquiry { origin, questions })
+    Ok(Inquiry {
+        origin,
+        form,
+        questions,
+    })
 }
 
 /// The type that is asked for: as it is given, or that of addresses.
@@ -203,19 +214,18 @@ fn type_word(asked: Option<&str>) -> &str
 }
 
 /// The question of words about the zone of an origin: of a name, and a type or none.
-pub(crate) fn inquiry_of(
-    alloc: Global,
-    origin: &str,
-    name: &str,
-    asked: Option<&str>,
-) -> Result<Inquiry, LineFault>
-    ensures { Gives inquiry_view result (inquiry_of origin.now name.now (option_map (λ t. t.now) asked.entry)) }
+pub(crate) fn inquiry_of(alloc: Global, words: Answer<'_>) -> Result<Inquiry, LineFault>
+    ensures { Gives inquiry_view result (inquiry_of words.entry.form words.entry.origin.now words.entry.name.now (option_map (λ t. t.now) words.entry.asked)) }
 {
-    let origin = read_name(alloc, origin)?;
-    let name = read_name(alloc, name)?;
-    let word = type_word(asked).as_bytes();
+    let origin = read_name(alloc, words.origin)?;
+    let name = read_name(alloc, words.name)?;
+    let word = type_word(words.asked).as_bytes();
     let asked = type_or(word, Refusal::TypeNotKept)?;
     let mut questions = Vec::new(alloc);
     push_question(&mut questions, make_question(alloc, name, word, asked)?)?;
-    Ok(Inquiry { origin, questions })
+    Ok(Inquiry {
+        origin,
+        form: words.form,
+        questions,
+    })
 }

@@ -40,7 +40,7 @@ pub fn push_command_answer(
         | "edit-guarded-sets"
         | "diff-reads"
         | "diff-write" => { push_diff(alloc, row, answer) }
-        "answers" | "answers-reads" => push_answers(alloc, row, answer),
+        "answers" | "answers-json" | "answers-reads" => push_answers(alloc, row, answer),
         "plan" | "plan-answers" | "plan-reads" | "plan-write" => push_plan(alloc, row, answer),
         "expect" | "expect-reads" => push_expect(alloc, row, answer),
         "beside" | "beside-reads" => push_zones(alloc, row, answer),

@@ -116,7 +116,8 @@ fn push_inquiry(words: &Answer<'_>, answer: &mut Vec<u8>) -> Result<(), AllocErr
         ],
         answer,
     )?;
-    push_if_given(words.asked, answer)
+    push_if_given(words.asked, answer)?;
+    push_all(&[text_form(words.form)], answer)
 }
 
 fn push_check(alloc: Global, words: &Check<'_>, answer: &mut Vec<u8>) -> Result<(), AllocError> {

@@ -47,9 +47,9 @@ fn push_listed_lines(
     Ok(())
 }
 
-/// The lines of records.
+/// Appends an array of the lines of records, each a string. What `line` holds is lost: room for one line. The only error is out of memory.
 #[tactic(auto, using(crate::proofs::AppendLemmas::front_on))]
-fn push_lines(out: &mut Vec<u8>, line: &mut String, records: &[Record]) -> Result<(), AllocError>
+pub fn push_lines(out: &mut Vec<u8>, line: &mut String, records: &[Record]) -> Result<(), AllocError>
     ensures { Appends out.old out.new (lines_value records.now) result }
 {
     out.push(b'[')?;
@@ -149,9 +149,9 @@ pub(crate) fn push_changes(out: &mut Vec<u8>, changes: &[NumberedChange]) -> Res
     Ok(())
 }
 
-/// A name as a string.
+/// Appends a name as a string. What `line` holds is lost: room for the name. The only error is out of memory.
 #[tactic(auto, using(crate::proofs::AppendLemmas::front_on))]
-fn push_name(out: &mut Vec<u8>, line: &mut String, name: &Name) -> Result<(), AllocError>
+pub fn push_name(out: &mut Vec<u8>, line: &mut String, name: &Name) -> Result<(), AllocError>
     ensures { Appends out.old out.new (quoted (name_text name.now)) result }
 {
     line.clear();

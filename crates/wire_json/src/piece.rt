@@ -70,9 +70,9 @@ fn push_escaped(out: &mut Vec<u8>, text: &[u8]) -> Result<(), AllocError>
     Ok(())
 }
 
-/// Appends a string.
+/// Appends a string. The only error is out of memory.
 #[tactic(auto, using(crate::proofs::AppendLemmas::front_on))]
-pub(crate) fn push_quoted(out: &mut Vec<u8>, text: &[u8]) -> Result<(), AllocError>
+pub fn push_quoted(out: &mut Vec<u8>, text: &[u8]) -> Result<(), AllocError>
     ensures { Appends out.old out.new (quoted text.now) result }
 {
     out.push(b'"')?;

@@ -4,8 +4,8 @@ ghost use Rattle.cli_core.specs.declared.commands.Command.TheVariants as command
 
 use crate::argument::Argument;
 use crate::commands::{CommandWords, Row};
-use crate::job::{Job, TextJob};
-use crate::matched::{text_at, texts_at};
+use crate::job::{Job, TextForm, TextJob};
+use crate::matched::{text_at, text_form_at, texts_at};
 use clap::ArgMatches;
 
 /// The words of `answer`.
@@ -19,6 +19,8 @@ pub struct Answer<'a> {
     pub name: &'a str,
     /// The type that is asked for, where one is given.
     pub asked: Option<&'a str>,
+    /// As what the answers are printed.
+    pub form: TextForm,
 }
 
 pub(super) static ROW: Row = Row {
@@ -30,6 +32,7 @@ pub(super) static ROW: Row = Row {
         Argument::File,
         Argument::AskedName,
         Argument::AskedType,
+        Argument::Json,
     ],
 };
 
@@ -51,6 +54,7 @@ impl<'a> CommandWords<'a> for Answer<'a> {
             file,
             name,
             asked,
+            form: text_form_at(matches),
         })))
     }
 }

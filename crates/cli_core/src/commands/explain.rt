@@ -5,7 +5,7 @@ ghost use Rattle.cli_core.specs.declared.commands.Command.TheVariants as command
 use crate::argument::Argument;
 use crate::commands::{CommandWords, Row};
 use crate::job::{Job, TextForm, TextJob};
-use crate::matched::{flag_at, text_at};
+use crate::matched::{text_at, text_form_at};
 use clap::ArgMatches;
 
 /// The words of `explain`.
@@ -29,11 +29,7 @@ impl<'a> CommandWords<'a> for Explain<'a> {
 
     fn read(matches: &ArgMatches<'a>) -> Option<Job<'a>> {
         let number = text_at(matches, Argument::Number);
-        let form = if flag_at(matches, Argument::Json) {
-            TextForm::Json
-        } else {
-            TextForm::Plain
-        };
+        let form = text_form_at(matches);
         Some(Job::Text(TextJob::Explain(Explain { number, form })))
     }
 }

@@ -57,7 +57,12 @@ impl Command<'_> {
             "request" => self.run_task(alloc, Request { id: words }, reading, writing),
             "split" => self.run_task(alloc, Split { id: words }, reading, writing),
             "rights" => self.run_task(alloc, question(words), reading, writing),
-            "answer" => self.run_task(alloc, question_in(words), reading, writing),
+            "answer" => {
+                self.run_task(alloc, question_in(words, TextForm::Plain), reading, writing)
+            }
+            "answer-json" => {
+                self.run_task(alloc, question_in(words, TextForm::Json), reading, writing)
+            }
             "explain" => self.run_task(alloc, asked(words), reading, writing),
             "check" => self.run_check(alloc, Subject::Rules, reading, writing),
             "reverse" => self.run_check(alloc, Subject::Reverse(words), reading, writing),
@@ -172,13 +177,14 @@ fn question(words: &str) -> QuestionWords<'_> {
 }
 
 /// What words with bars between them ask about a zone: its origin, a name, and a type, if there is one.
-fn question_in(words: &str) -> Answer<'_> {
+fn question_in(words: &str, form: TextForm) -> Answer<'_> {
     let mut words = words.split('|');
     Answer {
         origin: words.next().unwrap_or(""),
         file: "-",
         name: words.next().unwrap_or(""),
         asked: words.next(),
+        form,
     }
 }
 

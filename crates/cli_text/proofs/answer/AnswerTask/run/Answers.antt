@@ -10,9 +10,9 @@ returns-in_err-write_text-in-Ok g c =
     let w = c.args.self in
     let made = c.in-Ok.ensures in
     let sent = rw c.deref.ensures.value at c.in_err-write_text-in-Ok.ensures in
-    rw (p.1, p.2) (answered_front _ (answer_text w.origin.now w.name.now (option_map (λ t. t.now) w.asked)) _ _ _ _ _ _ c.in-Ok.text.items made.0 made.1 sent)
+    rw (p.1, p.2) (answered_front _ (answer_text w.form w.origin.now w.name.now (option_map (λ t. t.now) w.asked)) _ _ _ _ _ _ c.in-Ok.text.items made.0 made.1 sent)
 
 pub returns-in-Err : goal.returns-in-Err
 returns-in-Err g c =
     let w = c.args.self in
-    answered_told _ (answer_text w.origin.now w.name.now (option_map (λ t. t.now) w.asked)) _ _ _ _ _ _ (λ (text : Vec ℕ Global). text.items) c.in-Err.fault (Err c.write_refusal.result) c.in-Err.ensures c.write_refusal.ensures
+    answered_told _ (answer_text w.form w.origin.now w.name.now (option_map (λ t. t.now) w.asked)) _ _ _ _ _ _ (λ (text : Vec ℕ Global). text.items) c.in-Err.fault (Err c.write_refusal.result) c.in-Err.ensures c.write_refusal.ensures
