@@ -90,7 +90,8 @@ fn push_members(
     push_string(text, r#","code":"#, code.as_bytes())?;
     push_owner(text, line, r#","name":"#, &question.name)?;
     push_string(text, r#","type":"#, &question.word)?;
-    text.push(b'}')
+    text.push(b'}')?;
+    Ok(())
 }
 
 /// Appends an answer to a question as an object of JSON (RFC 8259), and a line end. The only error is out of memory.
@@ -106,5 +107,6 @@ pub(crate) fn push_object(
     let mut line = String::new(alloc);
     push_sections(text, &mut line, answer)?;
     push_members(text, &mut line, question, answer.code.text())?;
-    text.push(b'\n')
+    text.push(b'\n')?;
+    Ok(())
 }
