@@ -8,7 +8,8 @@ use Rattle.dns_names.specs.Order.{same_name}
 use Rattle.dns_names.proofs.NameLemmas.{is_within-Decides}
 use Rattle.dns_data.specs.declared.record.Record.{Record}
 use Rattle.dns_data.specs.declared.record_type.RecordType.{RecordType}
-use Rattle.dns_data.specs.declared.record_type.RecordType.TheVariants as types
+use Rattle.dns_data.specs.Types.{kept_types}
+use Rattle.dns_data.proofs.KeptLaws.{each_kept}
 use Rattle.dns_data.specs.declared.rdata.Data.TheVariants as variants
 use Rattle.zone_core.specs.Sets.{set_of, listing, InOrder}
 use Rattle.zone_core.specs.Zones.{ZoneOf, IsZone}
@@ -60,22 +61,18 @@ is_kept {X} p (y ∷ xs) x a e = by_test (p y) refl (is_kept p xs x)
 
 -- ---- types
 
+among_mapped : {A B : Type 0} (f : A → B) (xs : List A) (x : A) → Among x xs → Among (f x) (map f xs)
+among_mapped f [] x a = absurd a
+among_mapped f (y ∷ ys) x a = (elim a [ inl same ↦ inl (ap f same) | inr later ↦ inr (among_mapped f ys x later) ])
+
 kept_listed : (t : RecordType) → Among (Kept t) query_types
-kept_listed types.A = inl refl
-kept_listed types.Ns = inr (inl refl)
-kept_listed types.Cname = inr (inr (inl refl))
-kept_listed types.Soa = inr (inr (inr (inl refl)))
-kept_listed types.Ptr = inr (inr (inr (inr (inl refl))))
-kept_listed types.Mx = inr (inr (inr (inr (inr (inl refl)))))
-kept_listed types.Txt = inr (inr (inr (inr (inr (inr (inl refl))))))
-kept_listed types.Aaaa = inr (inr (inr (inr (inr (inr (inr (inl refl)))))))
-kept_listed types.Srv = inr (inr (inr (inr (inr (inr (inr (inr (inl refl))))))))
-kept_listed types.Ds = inr (inr (inr (inr (inr (inr (inr (inr (inr (inl refl)))))))))
+kept_listed t =
+    (among_append (map Kept kept_types) (Any ∷ Other ∷ []) (Kept t)).1 (inl (among_mapped Kept kept_types t (among_of kept_types t (each_kept t))))
 
 listed_type : (asked : QueryType) → Among asked query_types
 listed_type (Kept t) = kept_listed t
-listed_type Any = inr (inr (inr (inr (inr (inr (inr (inr (inr (inr (inl refl))))))))))
-listed_type Other = inr (inr (inr (inr (inr (inr (inr (inr (inr (inr (inr (inl refl)))))))))))
+listed_type Any = (among_append (map Kept kept_types) (Any ∷ Other ∷ []) Any).1 (inr (inl refl))
+listed_type Other = (among_append (map Kept kept_types) (Any ∷ Other ∷ []) Other).1 (inr (inr (inl refl)))
 
 -- ---- both zones
 

@@ -6,7 +6,7 @@ use Rattle.std.specs.declared.cmp.Ordering.{Ordering}
 use Rattle.dns_names.specs.Labels.{IsWithin}
 use Rattle.dns_names.specs.Order.{canonical_cmp, same_name}
 use Rattle.dns_data.specs.declared.record.Record.{Record}
-use Rattle.dns_data.specs.declared.record_type.RecordType.TheVariants as types
+use Rattle.dns_data.specs.Types.{kept_types}
 use Rattle.dns_data.specs.declared.rdata.Data.{Data}
 use Rattle.dns_data.specs.declared.rdata.Data.TheVariants as variants
 use Rattle.zone_core.specs.Views.{AreOfZone}
@@ -68,9 +68,7 @@ IsGroup origin rs (Others encloser) = IsWithin encloser origin × Exists rs encl
 
 -- the types of questions: those that zones keep, by number, then all, and then those that no zone has
 abbrev pub query_types : List QueryType
-query_types =
-    Kept types.A ∷ Kept types.Ns ∷ Kept types.Cname ∷ Kept types.Soa ∷ Kept types.Ptr ∷ Kept types.Mx ∷ Kept types.Txt ∷ Kept types.Aaaa ∷ Kept types.Srv
-    ∷ Kept types.Ds ∷ Any ∷ Other ∷ []
+query_types = map Kept kept_types ++ Any ∷ Other ∷ []
 
 -- types of questions in their order, each once, and at least one
 pub record AreTypes (some : List QueryType) : Type 0 where
