@@ -61,11 +61,7 @@ const fn authority_key(authoritative: bool) -> &'static str
 }
 
 /// Appends the members that have records, and the brace before them. The only error is out of memory.
-fn push_sections(
-    text: &mut Vec<u8>,
-    line: &mut String,
-    answer: &Answer,
-) -> Result<(), AllocError>
+fn push_sections(text: &mut Vec<u8>, line: &mut String, answer: &Answer) -> Result<(), AllocError>
     ensures { OnOk result (text.new.items ≡ text.old.items ++ sections_text (answer_of answer.now)) }
 {
     push_section(text, line, r#"{"additional":"#, &answer.additional)?;

@@ -49,7 +49,11 @@ fn push_listed_lines(
 
 /// Appends an array of the lines of records, each a string. What `line` holds is lost: room for one line. The only error is out of memory.
 #[tactic(auto, using(crate::proofs::AppendLemmas::front_on))]
-pub fn push_lines(out: &mut Vec<u8>, line: &mut String, records: &[Record]) -> Result<(), AllocError>
+pub fn push_lines(
+    out: &mut Vec<u8>,
+    line: &mut String,
+    records: &[Record],
+) -> Result<(), AllocError>
     ensures { Appends out.old out.new (lines_value records.now) result }
 {
     out.push(b'[')?;

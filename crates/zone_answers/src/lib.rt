@@ -17,8 +17,8 @@ mod zone_index;
 pub use answer::Answer;
 pub use changes::{ChangedAnswers, QuestionGroup, changed_answers};
 pub use laws::{
-    answers_are_of_zones, cuts_refer, missing_names_are_nowhere, names_of_groups_are_answered_alike,
-    questions_have_one_answer,
+    answers_are_of_zones, cuts_refer, missing_names_are_nowhere,
+    names_of_groups_are_answered_alike, questions_have_one_answer,
 };
 pub use query_type::QueryType;
 pub use zone_index::ZoneIndex;
