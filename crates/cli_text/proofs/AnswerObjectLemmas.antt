@@ -1,5 +1,5 @@
 -- An answer as an object of JSON is what its pieces come to.
-use Rattle.std.proofs.Common.{◌≡◌, ℕ, Bool, true, false, List, [], ◌∷◌, ◌++◌, append_assoc, codes}
+use Rattle.std.proofs.Common.{◌≡◌, ℕ, Bool, true, false, List, [], ◌∷◌, ◌++◌, sym, ap, ◌∙◌, append_assoc, codes}
 use Rattle.dns_names.specs.Spelling.{name_text}
 use Rattle.zone_core.specs.Rcodes.{rcode_text}
 use Rattle.zone_answers.specs.Answers.{AnswerOf}
@@ -30,3 +30,21 @@ module _ (additional records section status owner word : List ℕ) where
 pub object_is : (q : QuestionOf) (a : AnswerOf) → answer_object q a ≡ sections_text a ++ question_members q (rcode_text a.code)
 object_is q a =
     by_authority (lines_value a.additional) (lines_value a.answer) (lines_value a.authority) (quoted (rcode_text a.code)) (quoted (name_text q.name)) (quoted q.word) a.authoritative
+
+-- ---- pieces that are appended
+
+joined : (old a x b y c z : List ℕ) → ((old ++ (a ++ x)) ++ (b ++ y)) ++ (c ++ z) ≡ old ++ (a ++ (x ++ (b ++ (y ++ (c ++ z)))))
+joined old a x b y c z = simp append_assoc
+
+pub three_sections : (old a x b y c z first second third : List ℕ) → first ≡ old ++ (a ++ x) → second ≡ first ++ (b ++ y) → third ≡ second ++ (c ++ z)
+    → third ≡ old ++ (a ++ (x ++ (b ++ (y ++ (c ++ z)))))
+three_sections old a x b y c z first second third p q r =
+    r ∙ ap (λ (l : List ℕ). l ++ (c ++ z)) (q ∙ ap (λ (l : List ℕ). l ++ (b ++ y)) p) ∙ joined old a x b y c z
+
+ended : (old sections members end : List ℕ) → ((old ++ sections) ++ members) ++ end ≡ old ++ ((sections ++ members) ++ end)
+ended old sections members end = simp append_assoc
+
+pub object_ends : (old sections members object end first second third : List ℕ) → first ≡ old ++ sections → second ≡ first ++ members → third ≡ second ++ end
+    → object ≡ sections ++ members → third ≡ old ++ (object ++ end)
+object_ends old sections members object end first second third p q r e =
+    r ∙ ap (λ (l : List ℕ). l ++ end) (q ∙ ap (λ (l : List ℕ). l ++ members) p) ∙ ended old sections members end ∙ ap (λ (l : List ℕ). old ++ (l ++ end)) (sym e)

@@ -91,7 +91,6 @@ fn push_members(
 }
 
 /// Appends an answer to a question as an object of JSON (RFC 8259), and a line end. The only error is out of memory.
-#[tactic(auto, using(crate::proofs::AnswerObjectLemmas::object_is))]
 pub(crate) fn push_object(
     alloc: Global,
     text: &mut Vec<u8>,
