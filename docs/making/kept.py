@@ -16,6 +16,7 @@ LISTS = {
         ("docs/openapi.yaml", "types", lists.types_in_either_case),
         ("docs/openapi.yaml", "types of lines", lists.types_of_lines),
         ("web/data.js", "types", lists.types_of_page),
+        ("web/answers.js", "types", lists.types_of_questions),
         ("web/data.js", "fields", lists.fields_of_page),
         ("client/office_client/tables.py", "types", lists.types_of_client),
         ("adapters/office_records.py", "types", lists.types_of_adapters),

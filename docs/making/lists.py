@@ -44,6 +44,10 @@ def types_of_page(_):
     return f"const TYPES = {json.dumps(sorted(sources.type_names()))};"
 
 
+def types_of_questions(_):
+    return f"const KEPT = {json.dumps(sources.type_names())};"
+
+
 def fields_of_page(_):
     lines = ["const FIELDS = {"]
     for one in sorted(sources.types()):
