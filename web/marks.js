@@ -16,6 +16,7 @@ export function named(name) {
     return letters ? `${letters} (${name})` : name;
 }
 
+const MOST_FAULTS = 6; // that a line has marks of
 const own = (name) => relative(name, state.zone.origin);
 
 /** Who can be asked: the mailbox of the SOA; where the caller does not see it, that of RFC 2142 section 7. */
@@ -70,7 +71,13 @@ function idleMarks({edit, why, obstacles, isIdle}, {drop}) {
 }
 
 function faultMarks({faults, edit}, {rename}) {
-    return faults.flatMap((fault) => {
+    const ordered = [...faults].sort((one, other) => Number(stopsZone(other)) - Number(stopsZone(one)));
+    const more = ordered.length - MOST_FAULTS;
+    return [...ordered.slice(0, MOST_FAULTS).flatMap(faultMark(edit, rename)), ...(more > 0 ? [mark("warn", t("andMore", more))] : [])];
+}
+
+function faultMark(edit, rename) {
+    return (fault) => {
         const {rule, record, server = fault.at} = fault;
         const isOwn = edit.now && record.name === edit.now.name;
         const text = `${isOwn ? "" : `${own(record.name)} ${record.type}: `}${t(rule, named(server ?? record.name))}`;
@@ -78,7 +85,7 @@ function faultMarks({faults, edit}, {rename}) {
         const repair = better && better !== edit.now.name ? [button(t("makeIt", own(better)), () => rename(better))] : [];
         const stops = stopsZone(fault);
         return [mark(stops ? "bad" : "warn", `${t(stops ? "wouldStop" : isSilent(fault) ? "wouldFail" : "wouldWarn")} ${text}`, ...repair)];
-    });
+    };
 }
 
 function noteMarks({edit: {old, now}, sharers, operations, conflict}) {
