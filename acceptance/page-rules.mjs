@@ -8,6 +8,7 @@
 import {spawn} from "node:child_process";
 import {writeFileSync} from "node:fs";
 import {get} from "node:http";
+import {chances, run as runProgram} from "./page-chance.mjs";
 
 const [program, folder, count, seed] = process.argv.slice(2);
 const page = (name) => import(`${folder}/${name}.js`);
@@ -18,15 +19,8 @@ const AT_ONCE = 3;
 const CALLERS = ["phys", "admin", "lib", "med", "web"];
 const policy = `${folder}/policy.toml`;
 
-// ---- chance (a linear congruence of 32 bits: the same edits for the same seed)
-
-let place = Number(seed) >>> 0;
-const chance = (most) => {
-    place = (Math.imul(place, 1664525) + 1013904223) >>> 0;
-    return Math.floor((place / 4294967296) * most);
-};
-const one = (list) => list[chance(list.length)];
-const some = (list, most) => Array.from({length: chance(most + 1)}, () => one(list));
+const {chance, one, some} = chances(seed);
+const run = (input, ...words) => runProgram(program, input, ...words);
 
 const LABELS = ["a", "lab", "www", "my_pc", "ns1", "-x", "x-", "*", "b\\195\\188cher", "xn--bcher-kva", "gc._msdcs", "a._spf", "b._dns-sd._udp", "c\\.d", "mail", "a#b",
     "x~", "\\\"d\\\\", "b.*"];
@@ -78,17 +72,6 @@ function someEdit(zone) {
 }
 
 // ---- the program
-
-function run(input, ...words) {
-    return new Promise((go) => {
-        const child = spawn(program, words, {stdio: ["pipe", "pipe", "ignore"]});
-        let said = "";
-        child.stdout.on("data", (piece) => (said += piece));
-        child.on("close", () => go(said));
-        child.stdin.on("error", () => undefined);
-        child.stdin.end(input);
-    });
-}
 
 const FIELDS = ["test", "op", "name", "ttl", "type", "data"];
 const itemLine = (item) => FIELDS.map((field) => item[field]).filter((value) => value !== undefined).join(" ");

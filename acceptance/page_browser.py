@@ -306,6 +306,12 @@ class Browser:
         self.wait("document.querySelectorAll('#plan > li').length === document.querySelectorAll('#plan > li .marks .tag:first-child').length"
                   " || [...document.querySelectorAll('#plan > li .marks')].every((marks) => marks.querySelector('.tag'))", "the marks of the plan")
 
+    def beyond(self, count):
+        """What the plan says is answered otherwise beyond the records that were typed, once it has so many sentences."""
+        self.view("review")
+        self.wait(f"document.querySelectorAll('#beyond li').length === {count} && !document.getElementById('beyond').hidden", "what else is answered otherwise")
+        return self.js("return [...document.querySelectorAll('#beyond li')].map((one) => one.textContent)")
+
     def operations(self):
         """What would be sent, as item lines."""
         self.plan()

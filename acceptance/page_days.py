@@ -596,9 +596,34 @@ def an_alias_of_nothing(browser, named):
     expect("undone, it is as it was", named.dig(p("short")), ["192.0.2.253", p("longer")])
 
 
+def what_else_changes(browser, named):
+    browser.edit("*.day31.physics", "192.0.2.90")
+    expect("day 31, a wildcard: the plan says which names it answers for, and which one it makes", browser.beyond(2), [
+        f"{p('day31')} exists then, with no records: an empty answer in place of NXDOMAIN.",
+        f"All names below {p('day31')} that do not exist get 192.0.2.90 in place of NXDOMAIN."])
+    browser.view("records")
+    browser.press("#bar-beyond button")
+    browser.wait("document.activeElement.id === 'beyond-head'", "the focus at the sentences")
+    check("the bar leads there")
+    expect("and so the name servers answer", (browser.send(), named.dig(p("any.day31"))), ("made", ["192.0.2.90"]))
+    browser.edit("x.day31.physics", "room 12", "TXT")
+    expect("a name beside it: the plan says that it loses the wildcard's answers, with all names below it", browser.beyond(1),
+           [f"{p('x.day31')} and all names below it lose the answers of the wildcard {p('*.day31')}"])
+    expect("and so it does", (browser.send(), named.dig(p("x.day31")), named.dig(p("y.x.day31")), named.dig(p("z.day31"))), ("made", [], [], ["192.0.2.90"]))
+    browser.edit("alias.physics", "x.day31.physics", "CNAME")
+    expect("a record that changes nothing else is followed by no sentence",
+           ([line[2] for line in browser.plan()], browser.js("return document.getElementById('beyond').hidden")), ([["you may (rule physics)"]], True))
+    browser.send()
+    browser.edit("x.day31.physics", "192.0.2.91")
+    expect("an alias of a name that changes is named", browser.beyond(1),
+           [f"With {p('x.day31')} its alias {p('alias')} changes: it is answered otherwise for A."])
+    expect("and so it is", (browser.send(), named.dig(p("alias"))), ("made", ["192.0.2.91", p("x.day31")]))
+    browser.view("records")
+
+
 def all_days(browser, named):
     """All of them, in one browser. A day that breaks off is one that differs, and the next one begins anew."""
-    for story in (*DAYS, who_may_add_only, who_may_not_delete, delegations, a_key_cut_short, what_one_server_refuses, an_alias_of_nothing):
+    for story in (*DAYS, who_may_add_only, who_may_not_delete, delegations, a_key_cut_short, what_one_server_refuses, an_alias_of_nothing, what_else_changes):
         try:
             story(browser, named)
         except (KeyError, RuntimeError, TimeoutError, WebDriverException) as fault:

@@ -98,11 +98,27 @@ def delegations(browser, named):
     at_widths(browser, "delegations")
 
 
+def beyond(browser):
+    def name(front):
+        return f"{front}.physics.{ZONE}"
+
+    change(add(name("*.users"), "A", "192.0.2.140", 3600), add(name("web"), "CNAME", name("printer"), 3600))
+    browser.sign_in("phys")
+    browser.edit("*.physics", "192.0.2.9")
+    browser.edit("grace.users.physics", "room 3", "TXT")
+    browser.change("printer.physics", "192.0.2.131")
+    expect("pictures: a wildcard, a name beside one, and an alias", len(browser.beyond(3)), 3)
+    browser.settled()
+    at_widths(browser, "beyond", "#beyond")
+    browser.start_anew()
+
+
 def all_pictures(browser, named):
-    """All of them, in one browser of physics, and of medicine in the end."""
+    """All of them, in one browser of physics, of medicine, and of physics again."""
     rights(browser)
     records_and_plan(browser)
     new_host(browser)
     conflict(browser)
     history(browser, named)
     delegations(browser, named)
+    beyond(browser)

@@ -1,5 +1,6 @@
 // The bar that is always in sight, and the plan: each change in words, with all that is known of it.
 
+import {foretell} from "./beyond.js";
 import {$, button, code, make, say} from "./elements.js";
 import {MOST_OPERATIONS, MOST_PREREQUISITES, RESOLUTIONS, setsOf} from "./edits.js";
 import {canUndo, guard, otherDrafts, replace, settle, takeOut, undo} from "./draft.js";
@@ -26,6 +27,7 @@ function showAll() {
     if (state.view === "review") {
         showPlan();
     }
+    foretell(judged);
 }
 
 function summary() {

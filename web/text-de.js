@@ -1,5 +1,7 @@
 // The words of the page in German. A sentence with a number is a function.
 
+import beyond from "./beyond-de.js";
+
 const figure = (number) => number.toLocaleString("de");
 const count = (number, one, many) => `${figure(number)} ${number === 1 ? one : many}`;
 const entries = (number) => count(number, "Eintrag", "Einträge");
@@ -7,6 +9,7 @@ const edits = (number) => count(number, "Änderung", "Änderungen");
 const time = (number) => count(number, "Sekunde", "Sekunden");
 
 export default {
+    ...beyond,
     // the frame
     title: "Zonenverwaltung",
     skip: "Zum Inhalt",

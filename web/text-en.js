@@ -1,10 +1,13 @@
 // The words of the page in English. A sentence with a number is a function.
 
+import beyond from "./beyond-en.js";
+
 const figure = (number) => number.toLocaleString("en");
 const count = (number, one, many = `${one}s`) => `${figure(number)} ${number === 1 ? one : many}`;
 const them = (number) => (number === 1 ? "it" : "them");
 
 export default {
+    ...beyond,
     // the frame
     title: "Zone office",
     skip: "To the content",

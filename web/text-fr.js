@@ -1,11 +1,14 @@
 // The words of the page in French. A sentence with a number is a function.
 
+import beyond from "./beyond-fr.js";
+
 const figure = (number) => number.toLocaleString("fr");
 const count = (number, one, many = `${one}s`) => `${figure(number)} ${number < 2 ? one : many}`;
 const entries = (number) => count(number, "enregistrement");
 const edits = (number) => count(number, "modification");
 
 export default {
+    ...beyond,
     // the frame
     title: "Bureau des zones",
     skip: "Au contenu",
