@@ -143,7 +143,7 @@ class Office:
 
     def serve(self):
         """Starts the office; the port at which it listens."""
-        words = ["serve", "--store", self.store, "--policy", self.policy, "--listen", "127.0.0.1:0"]
+        words = ["serve", "--store", self.store, "--policy", self.policy, "--listen", "127.0.0.1:0", "--longest", "0"]
         self.process = subprocess.Popen([self.program, *words], stdout=subprocess.PIPE, text=True)
         line = self.process.stdout.readline()
         if not line.startswith("listening "):
