@@ -7,8 +7,8 @@ use Rattle.sqlite.specs.Listing.{understood}
 use Rattle.sqlite.proofs.Callers.{IsPlain, command_of}
 use Rattle.store_sql.specs.declared.layout.Layout.{Layout}
 use Rattle.store_sql.specs.declared.layout.Layout.TheVariants.{IndexAfterRecords, IndexLast}
-use Rattle.store_sql.specs.Tables.{office_schema}
-use Rattle.store_sql.proofs.Texts.{select_from, by_key, the_rowid, terms_1, terms_5, terms_6, terms_6_two, terms_6_three, terms_7, terms_7_two, terms_7_three, replaced_6}
+use Rattle.store_sql.specs.Tables.{office_schema, changes_tree}
+use Rattle.store_sql.proofs.Texts.{select_from, by_first, by_key, the_rowid, terms_1, terms_5, terms_6, terms_6_two, terms_6_three, terms_7, terms_7_two, terms_7_three, replaced_6}
 
 abbrev pub insert_meta_text : List ℕ
 insert_meta_text = codes "INSERT INTO meta VALUES (?)"
@@ -165,3 +165,42 @@ pub delete_meta_plain : (l : Layout) → IsPlain (understood (office_schema l) d
 unfolding understood everything
 delete_meta_plain IndexAfterRecords = (refl, refl)
 delete_meta_plain IndexLast = (refl, refl)
+
+abbrev pub delete_records_of_text : List ℕ
+delete_records_of_text = codes "DELETE FROM records WHERE origin = ?1"
+
+pub delete_records_of_is : (l : Layout) → command_of (understood (office_schema l) delete_records_of_text) ≡ Delete 2 (record { lets = []; body = select_from 3 by_first the_rowid })
+unfolding understood everything
+delete_records_of_is IndexAfterRecords = refl
+delete_records_of_is IndexLast = refl
+
+pub delete_records_of_plain : (l : Layout) → IsPlain (understood (office_schema l) delete_records_of_text)
+unfolding understood everything
+delete_records_of_plain IndexAfterRecords = (refl, refl)
+delete_records_of_plain IndexLast = (refl, refl)
+
+abbrev pub delete_changes_of_text : List ℕ
+delete_changes_of_text = codes "DELETE FROM changes WHERE origin = ?1"
+
+pub delete_changes_of_is : (l : Layout) → command_of (understood (office_schema l) delete_changes_of_text) ≡ Delete 4 (record { lets = []; body = select_from (changes_tree l) by_first the_rowid })
+unfolding understood everything
+delete_changes_of_is IndexAfterRecords = refl
+delete_changes_of_is IndexLast = refl
+
+pub delete_changes_of_plain : (l : Layout) → IsPlain (understood (office_schema l) delete_changes_of_text)
+unfolding understood everything
+delete_changes_of_plain IndexAfterRecords = (refl, refl)
+delete_changes_of_plain IndexLast = (refl, refl)
+
+abbrev pub delete_zone_text : List ℕ
+delete_zone_text = codes "DELETE FROM zones WHERE origin = ?1"
+
+pub delete_zone_is : (l : Layout) → command_of (understood (office_schema l) delete_zone_text) ≡ Delete 1 (record { lets = []; body = select_from 1 by_first the_rowid })
+unfolding understood everything
+delete_zone_is IndexAfterRecords = refl
+delete_zone_is IndexLast = refl
+
+pub delete_zone_plain : (l : Layout) → IsPlain (understood (office_schema l) delete_zone_text)
+unfolding understood everything
+delete_zone_plain IndexAfterRecords = (refl, refl)
+delete_zone_plain IndexLast = (refl, refl)

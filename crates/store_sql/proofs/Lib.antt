@@ -19,3 +19,4 @@ pub mod ChangesBetween
 pub mod Creations
 pub mod ReceiptKeys
 pub mod WholeTables
+pub mod Removals

@@ -126,7 +126,7 @@ one_stored_change x y e =
     let is_ttl : x.ttl ≡ y.ttl = cc in
     λ i. record { origin = is_origin i; number = is_number i; side = is_side i; owner = is_owner i; record_type = is_record_type i; rdata = is_rdata i; ttl = is_ttl i }
 
-zone_hits : (origin : List ℕ) (r : List ℕ) → hits by_first (Text origin ∷ []) (stored_zone r) ≡ (bytes_eq r origin)
+pub zone_hits : (origin : List ℕ) (r : List ℕ) → hits by_first (Text origin ∷ []) (stored_zone r) ≡ (bytes_eq r origin)
 zone_hits origin r = rw (same_text r origin, and_true (bytes_eq r origin)) refl
 
 pub selects_zone : (old new : State) (origin : List ℕ) (rows : List Row) (all : RowsOf) → Shown the.zone_text (Text origin ∷ []) old new rows → Reads old.now all → IsPermutation (map stored_zone (filter (λ r. bytes_eq r origin) all.zones)) rows
@@ -134,7 +134,7 @@ selects_zone old new origin rows all shown h =
     asked (layout_in old.now.trees) stored_zone (λ r. bytes_eq r origin) (codes "zones") 1 zones_columns (1 ∷ []) 1 refl (plainly 1 refl) the.zone_text (Text origin ∷ []) old new h.schema (the.zone_plain (layout_in old.now.trees)) by_first columns_1 _ (the.zone_is (layout_in old.now.trees)).0 (the.zone_is (layout_in old.now.trees)).1
     (by_first_test (Text origin ∷ [])) (shown_1 (Text origin ∷ [])) (zone_hits origin) (λ _. refl) all.zones rows shown h.tables.zones
 
-records_of_hits : (origin : List ℕ) (r : RecordRowOf) → hits by_first (Text origin ∷ []) (stored_record r) ≡ (bytes_eq r.origin origin)
+pub records_of_hits : (origin : List ℕ) (r : RecordRowOf) → hits by_first (Text origin ∷ []) (stored_record r) ≡ (bytes_eq r.origin origin)
 records_of_hits origin r = rw (same_text r.origin origin, and_true (bytes_eq r.origin origin)) refl
 
 pub selects_records_of : (old new : State) (origin : List ℕ) (rows : List Row) (all : RowsOf) → Shown the.records_of_text (Text origin ∷ []) old new rows → Reads old.now all → IsPermutation (map stored_record (records_of origin all.records)) rows

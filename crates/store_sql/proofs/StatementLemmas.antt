@@ -71,27 +71,27 @@ pub plainly_changes : (l : Layout) (db : Trees) → overlay db [] (changes_tree 
 plainly_changes IndexAfterRecords = plainly 8 refl
 plainly_changes IndexLast = plainly 7 refl
 
-free_of_index_0 : (l : Layout) → IsNoIndex (office_schema l) 0
+pub free_of_index_0 : (l : Layout) → IsNoIndex (office_schema l) 0
 free_of_index_0 IndexAfterRecords = ((λ e. omega arith), ((λ e. omega arith), ((λ e. omega arith), ((λ e. omega arith), ((λ e. omega arith), tt)))))
 free_of_index_0 IndexLast = ((λ e. omega arith), ((λ e. omega arith), ((λ e. omega arith), ((λ e. omega arith), ((λ e. omega arith), tt)))))
 
-free_of_index_1 : (l : Layout) → IsNoIndex (office_schema l) 1
+pub free_of_index_1 : (l : Layout) → IsNoIndex (office_schema l) 1
 free_of_index_1 IndexAfterRecords = ((λ e. omega arith), ((λ e. omega arith), ((λ e. omega arith), ((λ e. omega arith), ((λ e. omega arith), tt)))))
 free_of_index_1 IndexLast = ((λ e. omega arith), ((λ e. omega arith), ((λ e. omega arith), ((λ e. omega arith), ((λ e. omega arith), tt)))))
 
-free_of_index_3 : (l : Layout) → IsNoIndex (office_schema l) 3
+pub free_of_index_3 : (l : Layout) → IsNoIndex (office_schema l) 3
 free_of_index_3 IndexAfterRecords = ((λ e. omega arith), ((λ e. omega arith), ((λ e. omega arith), ((λ e. omega arith), ((λ e. omega arith), tt)))))
 free_of_index_3 IndexLast = ((λ e. omega arith), ((λ e. omega arith), ((λ e. omega arith), ((λ e. omega arith), ((λ e. omega arith), tt)))))
 
-free_of_index_receipts : (l : Layout) → IsNoIndex (office_schema l) (receipts_tree l)
+pub free_of_index_receipts : (l : Layout) → IsNoIndex (office_schema l) (receipts_tree l)
 free_of_index_receipts IndexAfterRecords = ((λ e. omega arith), ((λ e. omega arith), ((λ e. omega arith), ((λ e. omega arith), ((λ e. omega arith), tt)))))
 free_of_index_receipts IndexLast = ((λ e. omega arith), ((λ e. omega arith), ((λ e. omega arith), ((λ e. omega arith), ((λ e. omega arith), tt)))))
 
-free_of_index_changes : (l : Layout) → IsNoIndex (office_schema l) (changes_tree l)
+pub free_of_index_changes : (l : Layout) → IsNoIndex (office_schema l) (changes_tree l)
 free_of_index_changes IndexAfterRecords = ((λ e. omega arith), ((λ e. omega arith), ((λ e. omega arith), ((λ e. omega arith), ((λ e. omega arith), tt)))))
 free_of_index_changes IndexLast = ((λ e. omega arith), ((λ e. omega arith), ((λ e. omega arith), ((λ e. omega arith), ((λ e. omega arith), tt)))))
 
-free_of_index_catalog : (l : Layout) → IsNoIndex (office_schema l) catalog_tree
+pub free_of_index_catalog : (l : Layout) → IsNoIndex (office_schema l) catalog_tree
 free_of_index_catalog IndexAfterRecords = ((λ e. omega arith), ((λ e. omega arith), ((λ e. omega arith), ((λ e. omega arith), ((λ e. omega arith), tt)))))
 free_of_index_catalog IndexLast = ((λ e. omega arith), ((λ e. omega arith), ((λ e. omega arith), ((λ e. omega arith), ((λ e. omega arith), tt)))))
 

@@ -113,3 +113,11 @@ written w rows = record {
   receipts = rows.receipts ++ w.receipts;
   changes = rows.changes ++ w.changes;
 }
+
+-- the rows without the zone of an origin: its row, those of its records and those of its changes
+abbrev pub without_origin : List ℕ → RowsOf → RowsOf
+without_origin origin rows = record rows {
+  zones = filter (λ z. not (bytes_eq z origin)) rows.zones;
+  records = filter (λ r. not (bytes_eq r.origin origin)) rows.records;
+  changes = filter (λ r. not (bytes_eq r.origin origin)) rows.changes;
+}

@@ -1,5 +1,5 @@
--- What each statement of a batch makes of all rows.
-use Rattle.std.specs.Prelude.{ℤ, ℕ, Bool, true, false, List, [], ◌∷◌, ◌++◌, not, filter}
+-- What each statement makes of all rows.
+use Rattle.std.specs.Prelude.{ℤ, ℕ, Bool, true, false, List, [], ◌∷◌, ◌++◌, not, filter, bytes_eq}
 use Rattle.store_sql.specs.Rows.{RecordRowOf, ReceiptRowOf, ChangeRowOf, RowsOf, same_key, without}
 
 abbrev pub with_version : ℤ → RowsOf → RowsOf
@@ -32,3 +32,13 @@ without_records gone rows = record rows { records = without gone rows.records }
 abbrev pub with_replaced : Bool → RecordRowOf → RecordRowOf → RowsOf → RowsOf
 with_replaced true gone new rows = with_record new (without_record gone rows)
 with_replaced false gone new rows = without_record gone rows
+
+-- the rows without those of the records of an origin, of its changes, and of its zone
+abbrev pub without_records_of : List ℕ → RowsOf → RowsOf
+without_records_of origin rows = record rows { records = filter (λ r. not (bytes_eq r.origin origin)) rows.records }
+
+abbrev pub without_changes_of : List ℕ → RowsOf → RowsOf
+without_changes_of origin rows = record rows { changes = filter (λ r. not (bytes_eq r.origin origin)) rows.changes }
+
+abbrev pub without_zone : List ℕ → RowsOf → RowsOf
+without_zone origin rows = record rows { zones = filter (λ z. not (bytes_eq z origin)) rows.zones }

@@ -1,6 +1,6 @@
-//! Batch rows, all in one transaction.
+//! The rows of a batch, all in one transaction.
 
-ghost use Rattle.std.specs.Prelude.{◌≡◌, ◌⊎◌, ◌∷◌, [], ℕ, Ok, false, IsTrue, IfOk, OnOk, OnErr};
+ghost use Rattle.std.specs.Prelude.{◌≡◌, ◌⊎◌, ◌∷◌, [], ℕ, Ok, false, IfOk, OnOk, OnErr};
 ghost use Rattle.sqlite.specs.Values.{bound};
 ghost use Rattle.sqlite.specs.Held.{state};
 ghost use Rattle.sqlite.specs.State.{HasCleanDisk, Executes};
@@ -10,9 +10,9 @@ ghost use Rattle.store_sql.specs.Statements.{with_each, with_record, with_replac
 ghost use Rattle.store_sql.specs.Stores.{IsReadableRow};
 ghost use Rattle.store_sql.specs.Tables.{stored_record, stored_change};
 
-use crate::query::check_open;
 use crate::rows::{Batch, ChangeRow, ReceiptRow, RecordRow};
 use crate::rows_fault::RowsFault;
+use crate::writing::{Writing, write_at_once};
 use sqlite::{Alter, Connection, Error, Transaction, params};
 use sqlite_value::value::ValueRef;
 
@@ -395,38 +395,18 @@ fn set_version<S: Alter>(tx: &mut Transaction<'_, S>, version: Option<i64>) -> R
     version.insert(tx)
 }
 
-/// All that a batch has, inside a transaction.
-fn write_all<S: Alter>(tx: &mut Transaction<'_, S>, batch: &Batch) -> Result<(), Error>
-    ensures same_reference { tx.new.conn.ghost_name ≡ tx.old.conn.ghost_name }
-    ensures stays { Stays (state S.Store tx.old.conn.now) (state S.Store tx.new.conn.now) }
-    ensures part { OnOk result (Part (state S.Store tx.old.conn.now) (state S.Store tx.new.conn.now) (written batch.now)) }
-    ensures going { IsGoing (state S.Store tx.old.conn.now) → HasCleanDisk (state S.Store tx.new.conn.now)
-        → OnOk result (IsGoing (state S.Store tx.new.conn.now)) }
-{
-    insert_all(tx, &batch.zones)?;
-    write_records(tx, &batch.removed, &batch.added)?;
-    insert_rows(tx, &batch.changes)?;
-    insert_all(tx, &batch.receipts)?;
-    set_version(tx, batch.version)
-}
+impl Writing for Batch {
+    ghost use Rattle.store_sql.specs.Rows.{written};
 
-/// The same in a transaction of its own, over a store that is open.
-fn commit<S: Alter>(conn: &mut Connection<S>, batch: &Batch) -> Result<(), Error>
-    requires mode { conn.old.in_transaction ≡ false }
-    requires opened { HasCleanDisk (state S.Store conn.old) → IsTrue (state S.Store conn.old).is_open }
-    ensures made { OnOk result ((rows : RowsOf) → Holds (state S.Store conn.old) rows → Holds (state S.Store conn.new) (written batch.now rows)) }
-    ensures failed { OnErr result (Keeps (state S.Store conn.old) (state S.Store conn.new)) }
-    ensures kept { OnOk result
-        ((rows : RowsOf) → Holds (state S.Store conn.old) rows → Leaves (state S.Store conn.new) (λ db. AreRows db (written batch.now rows))) }
-    ensures crash { OnErr result
-        ((rows : RowsOf) → Holds (state S.Store conn.old) rows
-        → Leaves (state S.Store conn.new) (λ db. (state S.Store conn.old).may_leave db ⊎ AreRows db (written batch.now rows))) }
-    ensures honest { HasCleanDisk (state S.Store conn.new) → HasCleanDisk (state S.Store conn.old) }
-    ensures ended { conn.new.in_transaction ≡ false }
-{
-    let mut tx = conn.transaction();
-    write_all(&mut tx, batch)?;
-    tx.commit()
+    ghost after = { written };
+
+    fn write_all<S: Alter>(&self, tx: &mut Transaction<'_, S>) -> Result<(), Error> {
+        insert_all(tx, &self.zones)?;
+        write_records(tx, &self.removed, &self.added)?;
+        insert_rows(tx, &self.changes)?;
+        insert_all(tx, &self.receipts)?;
+        set_version(tx, self.version)
+    }
 }
 
 /// Writes all of a batch in one transaction, whose commit is the last call of the store: the rows of `removed` go, by
@@ -445,7 +425,5 @@ pub fn write<S: Alter>(conn: &mut Connection<S>, batch: &Batch) -> Result<(), Ro
     ensures honest { HasCleanDisk (state S.Store conn.new) → HasCleanDisk (state S.Store conn.old) }
     ensures ended { conn.new.in_transaction ≡ false }
 {
-    check_open(conn)?;
-    commit(conn, batch)?;
-    Ok(())
+    write_at_once(conn, batch)
 }

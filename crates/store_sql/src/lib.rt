@@ -9,12 +9,14 @@ mod layout;
 mod lookups;
 mod path;
 mod query;
+mod removal;
 mod row_check;
 mod row_reader;
 mod rows;
 mod rows_fault;
 mod scans;
 mod schema;
+mod writing;
 
 pub use batch::write;
 pub use creation::make_tables;
@@ -24,6 +26,7 @@ pub use lookups::{
     records_of,
 };
 pub use path::connect_at;
+pub use removal::remove_zone;
 pub use row_check::RowCheck;
 pub use row_reader::{RowReader, WholeRows};
 pub use rows::{Batch, ChangeRow, ReceiptRow, RecordRow, ZoneRow};

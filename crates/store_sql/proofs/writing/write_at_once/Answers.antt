@@ -1,7 +1,7 @@
 use Rattle.std.proofs.Common.{inl, inr}
 use Rattle.sqlite.specs.Held.{state}
 use Rattle.store_sql.proofs.Commits.{on_err, holds_on, keeps_then, left_before}
-use Rattle.store_sql.proofs.batch.write.Goals as goal
+use Rattle.store_sql.proofs.writing.write_at_once.Goals as goal
 
 pub returns-in_err-check_open-clause-failed : goal.returns-in_err-check_open-clause-failed
 returns-in_err-check_open-clause-failed g c =

@@ -1,10 +1,10 @@
 use Rattle.std.proofs.Common.{◌≡◌, ◌⊎◌, inl, OnOk, OnErr, IsTrue, rules, subst, arith, refl}
 use Rattle.sqlite.specs.Held.{state}
 use Rattle.sqlite.specs.State.{HasCleanDisk}
-use Rattle.store_sql.specs.Rows.{RowsOf, written}
+use Rattle.store_sql.specs.Rows.{RowsOf}
 use Rattle.store_sql.specs.Holds.{AreRows, Holds, Leaves, IsGoing, Keeps}
 use Rattle.store_sql.proofs.Commits.{clean_if_open, on_ok_when, on_err_when, on_err, made, durable, undone_keeps, left_nothing, failed_end, left_either}
-use Rattle.store_sql.proofs.batch.commit.Goals as goal
+use Rattle.store_sql.proofs.writing.commit.Goals as goal
 
 pub returns-in_err-write_all-clause-failed : goal.returns-in_err-write_all-clause-failed
 returns-in_err-write_all-clause-failed g c =
@@ -24,7 +24,7 @@ returns-in_err-write_all-clause-crash g c =
     let end = c.drop-tx.new.self.0 in
     let same : end ≡ c.conn-1.given.0 = search rules in
     let begun = c.transaction-tx.ensures.begun in
-    let f = written c.args.batch.now in
+    let f = g.W.Writing.after c.args.writing.now in
     subst (λ h. OnErr c.from_residual.result ((rows : RowsOf) → Holds old rows → Leaves (state g.S.Store h) (λ db. old.may_leave db ⊎ AreRows db (f rows)))) same
     (on_err c.from_residual.result _ (λ rows _ clean db may. inl (left_nothing old mid (state g.S.Store end) (rw begun at c.write_all.ensures.stays).survives c.drop-tx.ensures.survives clean db may)))
 
@@ -35,7 +35,7 @@ returns-clause-made g c =
     let end = c.commit.new.self.0 in
     let new = state g.S.Store end in
     let same : end ≡ c.conn-2-1.given.0 = search rules in
-    let f = written c.args.batch.now in
+    let f = g.W.Writing.after c.args.writing.now in
     let part = rw c.transaction-tx.ensures.begun at c.in_ok-write_all.ensures.part in
     let later = c.commit.ensures.survives.clean in
     let clean_now : IsTrue new.is_open → HasCleanDisk new = clean_if_open _ _ (g.met.S.Store.shut_if_dirty end.store) in
@@ -49,7 +49,7 @@ returns-clause-kept g c =
     let end = c.commit.new.self.0 in
     let new = state g.S.Store end in
     let same : end ≡ c.conn-2-1.given.0 = search rules in
-    let f = written c.args.batch.now in
+    let f = g.W.Writing.after c.args.writing.now in
     let part = rw c.transaction-tx.ensures.begun at c.in_ok-write_all.ensures.part in
     let later = c.commit.ensures.survives.clean in
     subst (λ h. OnOk c.commit.result ((rows : RowsOf) → Holds old rows → Leaves (state g.S.Store h) (λ db. AreRows db (f rows)))) same
@@ -82,7 +82,7 @@ returns-clause-crash g c =
     let stays = rw begun at c.write_all.ensures.stays in
     let ready = λ (early : HasCleanDisk mid). let it : HasCleanDisk old = omega (arith, stays.survives.clean) in it in
     let going : HasCleanDisk mid → IsGoing mid = λ early. (rw begun at c.in_ok-write_all.ensures.going) (c.requires.opened (ready early), refl) early in
-    let f = written c.args.batch.now in
+    let f = g.W.Writing.after c.args.writing.now in
     let part = rw begun at c.in_ok-write_all.ensures.part in
     subst (λ h. OnErr c.commit.result ((rows : RowsOf) → Holds old rows → Leaves (state g.S.Store h) (λ db. old.may_leave db ⊎ AreRows db (f rows)))) same
     (on_err c.commit.result _ (λ rows h. left_either old mid new rows f part going c.commit.ensures.survives h))
