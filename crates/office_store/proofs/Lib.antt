@@ -2,6 +2,7 @@ pub mod QueryLemmas
 pub mod FaultLemmas
 pub mod RowLemmas
 pub mod TurnLemmas
+pub mod RemovalLemmas
 pub mod VersionLemmas
 pub mod ZoneLemmas
 pub mod CacheLemmas

@@ -58,3 +58,20 @@ handed_ok old new x y after turns = record { made = turns.made; failed = tt; kep
 pub handed_err : {X Y E F : Type 0} (old new : Shown) (e : E) (r : Result Y F) (after : State → State) → IsErr r → Turns {X = X} {E = E} old new (Err e) after → Turns old new r after
 handed_err old new e (Ok y) after is turns = absurd cc
 handed_err old new e (Err f) after is turns = record { made = λ clean. tt; failed = turns.failed; kept = λ clean. tt; crash = turns.crash; honest = turns.honest }
+
+-- a call that turns the state, after questions
+pub turned_then : {X E : Type 0} (old mid new : Shown) (r : Result X E) (after : State → State) → Asked old mid → Turns mid new r after → Turns old new r after
+turned_then old mid new (Ok x) after asked turns = record {
+  made = λ clean s h. turns.made clean s (asked.same s h);
+  failed = tt;
+  kept = λ clean s h. turns.kept clean s (asked.same s h);
+  crash = tt;
+  honest = λ clean. asked.honest (turns.honest clean);
+}
+turned_then old mid new (Err e) after asked turns = record {
+  made = λ clean. tt;
+  failed = λ s h. turns.failed s (asked.same s h);
+  kept = λ clean. tt;
+  crash = λ s h left. turns.crash s (asked.same s h) (asked.crash s s left);
+  honest = λ clean. asked.honest (turns.honest clean);
+}

@@ -1,4 +1,4 @@
--- What is answered where a zone is imported, put in the place of another, and exported, and the state after that.
+-- What is answered where a zone is imported, put in the place of another, taken out, and exported, and the state after that.
 use Rattle.std.specs.Prelude.{ℕ, List, if◌then◌else◌, Option, Some, None, Result, Ok, Err}
 use Rattle.dns_data.specs.declared.record.Record.{Record}
 use Rattle.zone_core.specs.Sets.{listing}
@@ -46,6 +46,13 @@ with_place_taken s zone (Some held) = with_zone_replaced s zone held
 abbrev pub with_replaced : State → Result ZoneOf StoreFault → State
 with_replaced s (Ok zone) = with_place_taken s zone (s.zones zone.origin)
 with_replaced s (Err fault) = s
+
+-- ---- a zone that goes
+
+-- whether a zone is held of an origin, which is taken out then
+abbrev pub removed : Option Held → Result (Unit {0}) StoreFault
+removed None = Err NoZone
+removed (Some held) = Ok tt
 
 -- ---- the records of a zone
 

@@ -26,7 +26,7 @@ use store_sql::{
 };
 
 /// What its type says of a name. It does nothing when it runs.
-fn reveal_name(name: &Name)
+pub(crate) fn reveal_name(name: &Name)
     ensures { IsName name.now }
 {
     let _ = name.labels();

@@ -13,6 +13,7 @@ ghost use Rattle.store_sql.specs.Tables.{no_schema, IsOffice};
 ghost use Rattle.store_rows.specs.Contents.{ContentOf};
 ghost use Rattle.store_rows.specs.Batches.{nothing_held};
 ghost use Rattle.store_rows.specs.Listed.{AreOriginsOf, AreReceiptsOf};
+ghost use Rattle.store_rows.specs.Removals.{without_zone};
 ghost use Rattle.store_faults.specs.declared.store_fault.StoreFault.TheVariants.{BadRow, WrongVersion};
 ghost use Rattle.store_faults.specs.StoreFaults.{CountsFailure, CountsCall, Gives, IsFailure, IsOfRows};
 ghost use Rattle.office_store.specs.Holds.{HoldsState, HasNone, HasVersion, IsOfVersion, IsStateIn, LeavesStates};
@@ -23,7 +24,7 @@ ghost use Rattle.office_store.specs.History.{FitsHistory, RememberEach};
 ghost use Rattle.office_store.specs.Migration.{HoldsOld, IsMigratedFrom, IsMigrated};
 ghost use Rattle.office_store.specs.Queries.{Asked, AsksOnly, Only};
 ghost use Rattle.office_store.specs.Turns.{Turns};
-ghost use Rattle.office_store.specs.Zones.{exported, if_free, if_later, imported, replaced, with_imported, with_replaced};
+ghost use Rattle.office_store.specs.Zones.{exported, if_free, if_later, imported, removed, replaced, with_imported, with_replaced};
 
 use crate::cache::{
     SubtreeRead, cached_or_held, cached_part, cached_subtree, commit_cached, export_cached,
@@ -32,7 +33,7 @@ use crate::migration::migrate;
 use crate::opening::{Checked, Refused, check_state, make};
 use crate::queries::check_open;
 use crate::reads::{changes_at, changes_behind, origins, receipt_at, receipts, zone_at};
-use crate::zones::{import, put_zone, replace, take_place};
+use crate::zones::{import, put_zone, remove, replace, take_place};
 use dns_data::Record;
 use dns_names::Name;
 use grant_policy::{Grants, Identifier};
@@ -50,9 +51,10 @@ use zone_core::{Change, Zone};
 
 /// Zones with their changes, and receipts, in the tables of a database. It counts the failures of its store by a ledger, and caches
 /// zones that were read as a whole, at first the largest, which follow the commits; the one of the last call until a call fails, and all
-/// until a whole zone is written. It remembers what the changes touch of zones whose first changes were read, at first of the one that
-/// has most, until a whole zone is written, and why its last call of the machine failed that did. What is cached and remembered of other
-/// zones than that of the last call takes a bounded amount of memory: the zones of the calls longest ago go.
+/// until a whole zone is written or taken out. It remembers what the changes touch of zones whose first changes were read, at first of
+/// the one that has most, until a whole zone is written or taken out, and why its last call of the machine failed that did. What is
+/// cached and remembered of other zones than that of the last call takes a bounded amount of memory: the zones of the calls longest ago
+/// go.
 #[derive(Drop)]
 pub struct SqlTable<S: Alter + Drop, L: Ledger> {
     conn: Connection<S>,
@@ -387,6 +389,30 @@ impl<S: Alter + Drop, L: Ledger> SqlTable<S, L> {
         self.histories = None;
         match replace(alloc, &mut self.conn, origin, records) {
             Ok(zone) => Ok(zone),
+            Err(fault) => Err(self.count(fault)),
+        }
+    }
+
+    /// Takes the zone of an origin out, with its records and its changes, in one transaction.
+    ///
+    /// All receipts stay. An update that was answered keeps its reply: sent again under its identifier, it gets that reply and changes
+    /// nothing, whether its zone is gone or another was imported of the same origin. Such a zone has no changes at first, and numbers
+    /// them from 1; it has nothing of what updates did to the zone before it.
+    ///
+    /// `NoZone` comes exactly where there is no zone of the origin, `Store` where the store fails, and `NoMemory` where memory runs
+    /// out. Then nothing changes.
+    pub fn remove(&mut self, alloc: Global, origin: &Name) -> Result<(), StoreFault>
+        ensures answer { HasCleanDisk (state S.Store self.new.conn) → (s : State) → HoldsState (state S.Store self.old.conn) s
+            → Gives (λ done. done) result (removed (s.zones origin.now)) }
+        ensures turns { Turns (state S.Store self.old.conn) (state S.Store self.new.conn) result (λ s. without_zone s origin.now) }
+        ensures counts { CountsCall self.old.book.total self.new.book.total result }
+    {
+        self.cache = None;
+        self.zones = None;
+        self.history = None;
+        self.histories = None;
+        match remove(alloc, &mut self.conn, origin) {
+            Ok(()) => Ok(()),
             Err(fault) => Err(self.count(fault)),
         }
     }

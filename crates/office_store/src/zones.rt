@@ -1,19 +1,21 @@
-//! Whole zones: one that comes, one in the place of another, and the records of one.
+//! Whole zones: one that comes, one in the place of another, one that goes, and the records of one.
 
-ghost use Rattle.std.specs.Prelude.{◌≡◌, false, Some, IfOk, OnOk};
+ghost use Rattle.std.specs.Prelude.{◌≡◌, false, Some, IfOk, IfErr, OnOk};
 ghost use Rattle.sqlite.specs.Held.{state};
 ghost use Rattle.sqlite.specs.State.{HasCleanDisk};
+ghost use Rattle.dns_names.specs.Spelling.{name_text};
 ghost use Rattle.zone_core.specs.Sets.{is_same};
 ghost use Rattle.zone_core.specs.Zones.{IsZone};
 ghost use Rattle.office_model.specs.States.{Held, State};
-ghost use Rattle.store_faults.specs.StoreFaults.{Gives};
+ghost use Rattle.store_faults.specs.StoreFaults.{Gives, IsFailure};
+ghost use Rattle.store_rows.specs.Removals.{without_zone};
 ghost use Rattle.office_store.specs.Holds.{HoldsState};
 ghost use Rattle.office_store.specs.Queries.{AsksOnly};
 ghost use Rattle.office_store.specs.Turns.{Turns};
-ghost use Rattle.office_store.specs.Zones.{if_free, if_later, exported, imported, replaced, with_imported, with_replaced};
+ghost use Rattle.office_store.specs.Zones.{if_free, if_later, exported, imported, removed, replaced, with_imported, with_replaced};
 
 use crate::batch::{next_number, write_to};
-use crate::queries::{held_text, zone_rows};
+use crate::queries::{held_text, reveal_name, zone_rows};
 use crate::reads::zone_at;
 use dns_data::Record;
 use dns_names::Name;
@@ -21,6 +23,7 @@ use sqlite::{Alter, Connection};
 use std::alloc::Global;
 use store_faults::StoreFault;
 use store_rows::{records_within, replacement_batch, zone_batch};
+use store_sql::remove_zone;
 use zone_core::{Zone, serial_less};
 
 /// Puts a zone beside the others, unless there is one of its origin.
@@ -119,6 +122,34 @@ pub(crate) fn replace<S: Alter>(
     let zone = Zone::build(alloc, origin, records)?;
     take_place(alloc, conn, &zone)?;
     Ok(zone)
+}
+
+/// Takes the zone of an origin out, by the text of the origin.
+fn take_out<S: Alter>(conn: &mut Connection<S>, origin: &Name, text: &str) -> Result<(), StoreFault>
+    requires alone { conn.old.in_transaction ≡ false }
+    requires text { text.now ≡ name_text origin.now }
+    ensures named { IfErr result IsFailure }
+    ensures turns { Turns (state S.Store conn.old) (state S.Store conn.new) result (λ s. without_zone s origin.now) }
+{
+    reveal_name(origin);
+    remove_zone(conn, text)?;
+    Ok(())
+}
+
+/// Takes the zone of an origin out, with its records and its changes.
+pub(crate) fn remove<S: Alter>(
+    alloc: Global,
+    conn: &mut Connection<S>,
+    origin: &Name,
+) -> Result<(), StoreFault>
+    ensures answer { HasCleanDisk (state S.Store conn.new) → (s : State) → HoldsState (state S.Store conn.old) s
+        → Gives (λ done. done) result (removed (s.zones origin.now)) }
+    ensures turns { Turns (state S.Store conn.old) (state S.Store conn.new) result (λ s. without_zone s origin.now) }
+{
+    let Some(text) = held_text(alloc, conn, origin)? else {
+        return Err(StoreFault::NoZone);
+    };
+    take_out(conn, origin, &text)
 }
 
 /// The records of the zone of an origin, in record order.

@@ -33,3 +33,4 @@ pub mod WrittenStateLemmas
 pub mod ChangedZoneLemmas
 pub mod NewZoneLemmas
 pub mod BatchLaws
+pub mod GoneZoneLemmas

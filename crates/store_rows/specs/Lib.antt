@@ -14,3 +14,4 @@ pub mod ReadZones
 pub mod ReadChanges
 pub mod Listed
 pub mod Batches
+pub mod Removals

@@ -7,6 +7,7 @@ ghost use Rattle.store_rows.specs.RecordRows.{RecordRowsAreApart, KeysAreOfRecor
 ghost use Rattle.store_rows.specs.Listed.{OriginsAreOfZones, ReceiptsAreThose};
 ghost use Rattle.store_rows.specs.States.{ZonesAreListed, ZonesStandAtOrigins, LastNumbersCount, StatesAreSound, OrderDoesNotCount, HistoriesAreOne};
 ghost use Rattle.store_rows.specs.Batches.{NewTablesHoldNothing};
+ghost use Rattle.store_rows.specs.Removals.{GoneRowsAreGoneZones, ZonesGo};
 
 /// A row of `records` is of one origin and one record; and two rows have one key, which is origin, owner, type and data, exactly
 /// where they are of one origin and of the same record (RFC 2136 section 1.1.1).
@@ -75,4 +76,11 @@ pub fn histories_are_one()
 /// Tables that were just made have the rows of the state without zones and receipts.
 pub fn new_tables_hold_nothing()
     ensures { NewTablesHoldNothing }
+{}
+
+/// A zone that goes takes its records and its changes with it, and leaves all else, receipts too; and rows without those of its origin
+/// are the state without it.
+pub fn zones_go()
+    ensures states { ZonesGo }
+    ensures rows { GoneRowsAreGoneZones }
 {}

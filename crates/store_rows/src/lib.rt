@@ -37,7 +37,7 @@ pub use gathering::{are_numbered, read_changes, sorted_changes};
 pub use laws::{
     change_rows_are_apart, histories_are_one, last_numbers_count, lists_are_whole,
     new_tables_hold_nothing, order_does_not_count, receipt_rows_are_apart, record_rows_are_apart,
-    rows_are_by_table, states_are_by_table, states_are_sound, zones_are_listed,
+    rows_are_by_table, states_are_by_table, states_are_sound, zones_are_listed, zones_go,
     zones_stand_at_origins,
 };
 pub use ordered::{KeptReceipt, kept_receipts, origins, sorted_origins};

@@ -6,8 +6,9 @@
 //!
 //! Of a store `create` makes the tables, `migrate` takes them from version 1 to version 2, and `sql` runs the script below. All else
 //! finds the table anew: `adopt` tells whether there is one, `import ORIGIN` and `replace ORIGIN` take the zone of the master file
-//! below, `export ORIGIN` and `subtree CALLER ORIGIN TOP` print records, `origins` prints those of all zones and `receipts` all receipts,
-//! `receipt CALLER ID` tells whether there is one, a call of the office (`test_zones`) is answered, and `look` asks each line below.
+//! below, `remove ORIGIN` takes one out, `export ORIGIN` and `subtree CALLER ORIGIN TOP` print records, `origins` prints those of all
+//! zones and `receipts` all receipts, `receipt CALLER ID` tells whether there is one, a call of the office (`test_zones`) is answered,
+//! and `look` asks each line below.
 //!
 //! `Stores`: `policy` takes its text from the body. `database` makes a database by the script of the body, and what is said above is
 //! done to it. `again` makes it anew, runs the script below too, and looks for the table, or migrates it for `again migrate`.

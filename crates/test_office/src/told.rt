@@ -76,6 +76,7 @@ fn answered<S: Alter + Drop, L: Ledger>(
         "export" => exported(alloc, table, text),
         "origins" => origins(alloc, table),
         "receipts" => receipts(alloc, table),
+        "remove" => removed(alloc, table, text),
         "subtree" => subtree(alloc, table, policy, text),
         "receipt" => receipt(alloc, table, text),
         _ => asked(alloc, table, policy, verb, text, body),
@@ -150,6 +151,19 @@ fn records_text(alloc: Global, records: &[Record]) -> Result<Vec<u8>> {
     let mut text = Vec::new(alloc);
     push_records(alloc, "", records, &mut text)?;
     Ok(text)
+}
+
+/// What is told of a zone that goes.
+fn removed<S: Alter + Drop, L: Ledger>(
+    alloc: Global,
+    table: &mut SqlTable<S, L>,
+    text: &[u8],
+) -> Result<Vec<u8>> {
+    let origin = name(alloc, text)?;
+    match table.remove(alloc, &origin) {
+        Ok(()) => spelled(alloc, "done"),
+        Err(fault) => fault_text(alloc, fault),
+    }
 }
 
 /// The origins of all zones, a line each.
