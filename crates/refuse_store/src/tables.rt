@@ -1,11 +1,12 @@
-//! What is written to tables.
+//! What is written to tables, and what goes from them.
 
-ghost use Rattle.std.specs.Prelude.{◌≡◌, [], false, None, IfOk, IsTrue, OnErr};
+ghost use Rattle.std.specs.Prelude.{◌≡◌, ◌++◌, [], ℕ, List, false, None, IfOk, IsTrue, OnOk, OnErr};
 ghost use Rattle.sqlite.specs.Files.{file_state};
 ghost use Rattle.sqlite.specs.Held.{state};
 ghost use Rattle.sqlite.specs.State.{HasCleanDisk};
 ghost use Rattle.store_sql.specs.Files.{ShowsThose};
-ghost use Rattle.store_sql.specs.Holds.{Keeps};
+ghost use Rattle.store_sql.specs.Holds.{Holds, Keeps};
+ghost use Rattle.store_sql.specs.Rows.{RowsOf, without_origin};
 ghost use Rattle.store_rows.specs.Batches.{receipts_batch};
 
 use sqlite::{Alter, Connection, Error, FileStore, Leftover, Options};
@@ -39,4 +40,29 @@ pub fn write<S: Alter>(
     ensures { OnErr result (Keeps (state S.Store conn.old) (state S.Store conn.new)) }
 {
     store_sql::write(conn, batch)
+}
+
+/// What `remove_zone` leaves where it succeeds, beside the text of another origin, which ends with this one.
+pub fn remove_zone<S: Alter>(
+    conn: &mut Connection<S>,
+    origin: &str,
+    _below: &str,
+) -> Result<(), RowsFault>
+    requires alone { conn.old.in_transaction ≡ false }
+    requires below { (front : List ℕ) × (_below.now ≡ front ++ origin.now) }
+    ensures { OnOk result ((rows : RowsOf) → Holds (state S.Store conn.old) rows → Holds (state S.Store conn.new) (without_origin origin.now rows)) }
+{
+    store_sql::remove_zone(conn, origin)
+}
+
+/// What it leaves where it fails, beside something that is written.
+pub fn remove_zone_whole<S: Alter>(
+    conn: &mut Connection<S>,
+    zone: &str,
+    _records: &Batch,
+) -> Result<(), RowsFault>
+    requires alone { conn.old.in_transaction ≡ false }
+    ensures { OnErr result (Keeps (state S.Store conn.old) (state S.Store conn.new)) }
+{
+    store_sql::remove_zone(conn, zone)
 }
