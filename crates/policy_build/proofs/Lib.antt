@@ -1,0 +1,3 @@
+pub mod ResolvingLaws
+pub mod MakingLaws
+pub mod LoopLemmas

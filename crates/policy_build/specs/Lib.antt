@@ -1,0 +1,12 @@
+pub mod Places
+pub mod Groups
+pub mod Selections
+pub mod Templates
+pub mod Sources
+pub mod Faults
+pub mod Entries
+pub mod Resolving
+pub mod Making
+pub mod Meaning
+pub mod Reading
+pub mod Printing

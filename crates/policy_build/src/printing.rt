@@ -1,0 +1,140 @@
+//! The rules of the office in its own TOML.
+
+ghost use Rattle.std.specs.Prelude.{◌≡◌, ◌≤◌, List, ℕ, Ok, IfOk, map, string_bytes};
+ghost use Rattle.toml.specs.Data.{string, members_depth, depth, items_depth};
+ghost use Rattle.toml.specs.View.{view, items_view, table_view};
+ghost use Rattle.grant_policy.specs.Documents.{AreRules, SpellsCallers, SpellsRule, SpellsRules, SpellsSelection, document_of};
+ghost use Rattle.grant_policy.specs.Reading.{policy_of};
+ghost use Rattle.policy_build.specs.Making.{made_of, rules_made};
+ghost use Rattle.policy_build.specs.Printing.{put_member, selection_data, words_data};
+
+use crate::building::Built;
+use crate::made_rule::MadeRule;
+use crate::selection::Selection;
+use dns_data::RecordType;
+use grant_policy::{Action, Callers};
+use std::alloc::{AllocError, Global};
+use toml::{Table, Value};
+
+/// A word of a rule.
+trait Word: Copy {
+    ghost word_text: { Self → List ℕ };
+
+    /// How it is written.
+    fn word(self) -> &'static str
+        ensures { result.now ≡ word_text self };
+}
+
+impl Word for RecordType {
+    ghost use Rattle.dns_data.specs.Types.{type_text};
+
+    ghost word_text = { type_text };
+
+    fn word(self) -> &'static str {
+        self.text()
+    }
+}
+
+impl Word for Action {
+    ghost use Rattle.grant_policy.specs.Words.{action_text};
+
+    ghost word_text = { action_text };
+
+    fn word(self) -> &'static str {
+        self.text()
+    }
+}
+
+/// The texts of words, in order. The only error is out of memory.
+fn words_value<T: Word>(alloc: Global, words: &[T]) -> Result<Vec<Value>, AllocError>
+    ensures { IfOk result (λ values. items_view values.items ≡ words_data T.word_text words.now) }
+{
+    let mut values = Vec::new(alloc);
+    for word in words {
+        values.push(Value::string(alloc, word.word())?)?;
+    }
+    Ok(values)
+}
+
+/// `*`, or an array of the words that are listed. The only error is out of memory.
+fn selection_value<T: Word>(alloc: Global, selection: &Selection<T>) -> Result<Value, AllocError>
+    ensures { IfOk result (λ value. view value ≡ selection_data T.word_text selection.now) }
+{
+    match selection.listed() {
+        Some(words) => Ok(Value::Array(words_value(alloc, words)?)),
+        None => Value::string(alloc, "*"),
+    }
+}
+
+/// `*`, or the identifier of a caller.
+fn callers_text(callers: &Callers) -> &str
+    ensures { SpellsCallers callers.now result.now }
+{
+    match callers {
+        Callers::Every => "*",
+        Callers::One(identifier) => identifier.as_str(),
+    }
+}
+
+/// Puts a value at a key of a table. The only error is out of memory.
+fn put(alloc: Global, table: &mut Table, key: &str, value: Value) -> Result<(), AllocError>
+    ensures { IfOk result (λ _. table_view table.new ≡ put_member key.now (view value) (table_view table.old)) }
+{
+    let key = String::from_str(alloc, key)?;
+    table.insert(key, value)?;
+    Ok(())
+}
+
+/// Puts a text at a key of a table. The only error is out of memory.
+fn put_text(alloc: Global, table: &mut Table, key: &str, text: &str) -> Result<(), AllocError>
+    ensures { IfOk result (λ _. table_view table.new ≡ put_member key.now (string text.now) (table_view table.old)) }
+{
+    put(alloc, table, key, Value::string(alloc, text)?)
+}
+
+/// The table of a rule. The only error is out of memory.
+fn rule_table(alloc: Global, rule: &MadeRule<'_>) -> Result<Table, AllocError>
+    ensures spells { IfOk result (λ table. SpellsRule (made_of rule.now).rule (table_view table)) }
+    ensures shallow { IfOk result (λ table. members_depth (table_view table) ≤ 1) }
+{
+    let at = rule.names.at.text(alloc)?;
+    let mut table = Table::new(alloc);
+    put_text(alloc, &mut table, "id", rule.id.as_str())?;
+    put_text(alloc, &mut table, "effect", rule.effect.text())?;
+    put_text(alloc, &mut table, "caller", callers_text(rule.callers))?;
+    put_text(alloc, &mut table, "scope", rule.names.scope.text())?;
+    put_text(alloc, &mut table, "at", at.as_str())?;
+    let types = selection_value(alloc, rule.types)?;
+    put(alloc, &mut table, "types", types)?;
+    let actions = selection_value(alloc, rule.actions)?;
+    put(alloc, &mut table, "actions", actions)?;
+    Ok(table)
+}
+
+/// The tables of rules, in order. The only error is out of memory.
+fn rule_tables(alloc: Global, rules: &[MadeRule<'_>]) -> Result<Vec<Value>, AllocError>
+    ensures spells { IfOk result (λ tables. SpellsRules (rules_made (map made_of rules.now)) (items_view tables.items)) }
+    ensures shallow { IfOk result (λ tables. items_depth (items_view tables.items) ≤ 2) }
+{
+    let mut tables = Vec::new(alloc);
+    for rule in rules {
+        tables.push(Value::Table(rule_table(alloc, rule)?))?;
+    }
+    Ok(tables)
+}
+
+impl<'a> Built<'a> {
+    /// The rules as a policy of the office, in TOML. The only error is out of memory.
+    pub fn text(&self, alloc: Global) -> Result<String, AllocError>
+        // The reader of policies reads exactly these rules again.
+        ensures again { IfOk result (λ text. AreRules (rules_made (map made_of self.now.rules.items)) → policy_of (document_of (string_bytes text)) ≡ Ok (rules_made (map made_of self.now.rules.items))) }
+    {
+        let mut top = Table::new(alloc);
+        let tables = rule_tables(alloc, &self.rules)?;
+        put(alloc, &mut top, "rule", Value::Array(tables))?;
+        match toml::table_to_string(alloc, &top) {
+            Ok(text) => Ok(text),
+            Err(_) => Err(AllocError),
+        }
+    }
+}
