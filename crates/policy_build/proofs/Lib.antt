@@ -1,3 +1,5 @@
 pub mod ResolvingLaws
 pub mod MakingLaws
 pub mod LoopLemmas
+pub mod ReadingLemmas
+pub mod PrintingLemmas

@@ -1,6 +1,7 @@
 -- What is made item by item, and its refusals.
-use Rattle.std.proofs.Common.{◌≡◌, ℕ, ◌+◌, ◌*◌, ◌<◌, ◌≤◌, List, [], ◌∷◌, ◌++◌, length, map, drop, take, Option, Some, None, Result, Ok, Err, Bool, true, false, cond, refl, sym, ap, ◌∙◌, subst, append_assoc, append-nil, arith}
-use Rattle.std.specs.Prelude.{bytes_eq, is_some}
+use Rattle.std.proofs.Common.{◌≡◌, ℕ, ◌+◌, ◌*◌, ◌<◌, ◌≤◌, zero, suc, List, [], ◌∷◌, ◌++◌, length, map, drop, take, Option, Some, None, Result, Ok, Err, Bool, true, false, cond, refl, sym, ap, ◌∙◌, subst, append_assoc, append-nil, arith}
+use Rattle.std.specs.Prelude.{bytes_eq, is_some, MatchOption}
+use Rattle.std.proofs.lemmas.Bool.{false≢true}
 use Rattle.std.specs.Option.{ok_or}
 use Rattle.std.proofs.Common.{get_or}
 use Rattle.std.proofs.lemmas.List.{drop_all, drop_more, take_more, take_all, take-map, map-append}
@@ -15,8 +16,21 @@ use Rattle.policy_build.specs.Entries.{EntryOf, called, entries_from, entries_of
 use Rattle.policy_build.specs.Faults.{Refuses, ◌>>=◌}
 use Rattle.policy_build.specs.Groups.{GroupOf}
 use Rattle.policy_build.specs.Making.{MadeOf, PairOf, made_from, made_in, numbered, pairs_with, products, with_rule}
-use Rattle.policy_build.specs.Resolving.{RowOf, few_members, members_from, row_called, row_in, rows_from, with_member}
+use Rattle.policy_build.specs.Resolving.{RowOf, IsRowAt, few_members, members_from, row_called, row_in, rows_from, with_member}
 use Rattle.policy_build.specs.Templates.{TemplateOf}
+use Rattle.policy_build.specs.declared.place.FileKey.TheVariants as key
+use Rattle.policy_build.specs.Places.{at_key}
+use Rattle.std.proofs.Common.{length-append}
+use Rattle.std.proofs.lemmas.List.{length-map}
+use Rattle.std.specs.Result.{IfOk}
+use Rattle.policy_build.specs.declared.made_rule.MadeRule.{MadeRule}
+use Rattle.policy_build.specs.Faults.{Reads}
+use Rattle.std.proofs.Common.{Bor}
+use Rattle.policy_build.specs.declared.building.Pair.{Pair}
+use Rattle.std.specs.List.{list_any}
+use Rattle.policy_build.specs.Making.{is_taken, made_of, pair_of}
+use Rattle.policy_build.proofs.MakingLaws.{made_for, pair_for, rule_step}
+use Rattle.policy_build.proofs.ResolvingLaws.{bind_ok, row_for, same_Ok}
 
 -- a refusal goes on, where the definition's does
 pub Refuses-on : {A B : Type 0} (e : BuildFault) (r : Result A BuildFault) (s : Result B BuildFault) → ((fault : BuildFault) → r ≡ Err fault → s ≡ Err fault) → Refuses e r → Refuses e s
@@ -107,6 +121,25 @@ module _ {X : Type 0} (id : List ℕ) (rows : List (RowOf X)) (i : ℕ) (row : R
   pub called_here : bytes_eq row.id id ≡ true → row_called id (drop i rows) ≡ Some row.members
   called_here yes' = ap (row_called id) (here rows i row lt is) ∙ ap (λ b. cond b (Some row.members) (row_called id (drop (i + 1) rows))) yes'
 
+same_get : {X : Type 0} (xs : List X) (i : ℕ) (d e : X) → i < length xs → get_or xs i d ≡ get_or xs i e
+same_get [] i d e lt = absurd (omega arith)
+same_get (x ∷ xs) zero d e lt = refl
+same_get (x ∷ xs) (suc i) d e lt = same_get xs i d e (omega arith)
+
+pub row_found : {X : Type 0} (id : List ℕ) (rows : List (RowOf X)) (i : ℕ) (row : RowOf X) → i < length rows → row ≡ get_or rows i row → bytes_eq row.id id ≡ true → row_called id rows ≡ row_called id (drop i rows) → IsRowAt id rows i
+row_found id rows i row lt is yes' e = record { within = lt; called = λ d. e ∙ called_here id rows i row lt is yes' ∙ ap (λ r. Some r.members) (is ∙ same_get rows i row d lt) }
+
+some_at : {X : Type 0} (id : List ℕ) (rows : List (RowOf X)) (k : ℕ) → IsRowAt id rows k → is_some (row_called id rows) ≡ true
+some_at id [] k is = absurd (omega (arith, is.within))
+some_at id (row ∷ rows) k is = ap is_some (is.called row)
+
+pub taken : {X : Type 0} (r : Option ℕ) (id : List ℕ) (rows : List (RowOf X)) → MatchOption r (row_called id rows ≡ None) (IsRowAt id rows) → is_some r ≡ true → is_some (row_called id rows) ≡ true
+taken None id rows m e = absurd (false≢true e)
+taken (Some k) id rows m e = some_at id rows k m
+
+pub row_taken : {X : Type 0} (rows : List (RowOf X)) (group : GroupOf X) → is_some (row_called group.id rows) ≡ true → row_in rows group ≡ Err (Repeated group.place)
+row_taken rows group t = ap (λ b. cond b (Err (Repeated group.place)) (members_from (at_key group.place key.Members) rows [] group.members >>= λ members. Ok (row_for group members))) t
+
 pub called_none : {X : Type 0} (id : List ℕ) (rows : List (RowOf X)) (i : ℕ) → length rows ≤ i → row_called id (drop i rows) ≡ None
 called_none id rows i past = ap (row_called id) (drop_all i rows past)
 
@@ -146,6 +179,14 @@ module _ {X : Type 0} (all : List (GroupOf X)) (rows : List (RowOf X)) (i : ℕ)
 
 -- ---- pairs and rules
 
+pub pairs_more : (c : Callers) (names : List (Bor Names)) (i : ℕ) (n : Bor Names) (before : List PairOf) (old new : List Pair) (p : Pair) → i < length names → n ≡ get_or names i n → new ≡ old ++ p ∷ [] → pair_of p ≡ pair_for c n.now
+    → map pair_of old ≡ before ++ pairs_with c (take i (map (λ m. m.now) names)) → map pair_of new ≡ before ++ pairs_with c (take (i + 1) (map (λ m. m.now) names))
+pairs_more c names i n before old new p lt is e same inv =
+    ap (map pair_of) e
+    ∙ map-append pair_of old (p ∷ [])
+    ∙ ap (λ q. map pair_of old ++ q ∷ []) same
+    ∙ pushed (pair_for c) before (map (λ m. m.now) names) i n.now (map pair_of old) (mapped_so_far (λ (m : Bor Names). m.now) names i n lt is) inv
+
 module _ (all : List Callers) (ns : List Names) (before : List PairOf) (i : ℕ) where
   pub products_more : (c : Callers) → drop i all ≡ c ∷ drop (i + 1) all → products before (drop i all) ns ≡ products (before ++ pairs_with c ns) (drop (i + 1) all) ns
   products_more c at = ap (λ l. products before l ns) at
@@ -180,3 +221,26 @@ module _ (callers : List (RowOf Callers)) (names : List (RowOf Names)) (all : Li
 
   pub made_done : length all ≤ i → made_from callers names i before (drop i all) ≡ Ok before
   made_done past = ap (made_from callers names i before) (drop_all i all past)
+
+rule_length : (entry : EntryOf) (number count k : ℕ) (before : List MadeOf) (p : PairOf) (made : List MadeOf) → with_rule entry number count k before p ≡ Ok made → length made ≡ length before + 1
+rule_length entry number count k before p made e =
+    let s = rule_step entry number count k before p made e in
+    ap (length {A = MadeOf}) s.2 ∙ length-append before (made_for entry number s.0 p ∷ [])
+
+pub numbered_length : (entry : EntryOf) (number count k : ℕ) (before : List MadeOf) (ps : List PairOf) (made : List MadeOf) → numbered entry number count k before ps ≡ Ok made → length made ≡ length before + length ps
+numbered_length entry number count k before [] made e = omega (arith, ap (length {A = MadeOf}) (same_Ok before made e))
+numbered_length entry number count k before (p ∷ ps) made e =
+    let a = bind_ok (with_rule entry number count k before p) (λ m. numbered entry number count (k + 1) m ps) made e in
+    omega (arith, rule_length entry number count k before p a.0 a.1, numbered_length entry number count (k + 1) a.0 ps made a.2)
+
+-- as many rules as before, and one for each pair
+pub few_kept : {U : Type 0} (r : Result U BuildFault) (entry : EntryOf) (number count k : ℕ) (old new : List MadeRule) (ps : List PairOf) → Reads (λ _. map made_of new) r (numbered entry number count k (map made_of old) ps) → length old + length ps ≤ 1024 → IfOk r (λ _. length new ≤ 1024)
+few_kept (Ok u) entry number count k old new ps read few =
+    let made = numbered_length entry number count k (map made_of old) ps (map made_of new) read in
+    omega (arith, made, few, length-map old made_of, length-map new made_of)
+few_kept (Err e) entry number count k old new ps read few = tt
+
+-- the ids of the rules, seen before and after
+pub taken_of : (id : List ℕ) (rules : List MadeRule) → list_any (λ rule. bytes_eq rule.id id) rules ≡ is_taken id (map made_of rules)
+taken_of id [] = refl
+taken_of id (rule ∷ rules) = rw (taken_of id rules) refl

@@ -94,15 +94,15 @@ abbrev pub name_in : Place → List ℕ → Result (List (List ℕ)) BuildFault
 name_in place text = named place (absolute_name text)
 
 -- what is before and after the only space
-abbrev pub cut : List ℕ → Option (List ℕ × List ℕ)
-cut text = cut_at (position (λ octet. octet == 32) text)
-  where
-    abbrev pub cut_after : List ℕ → List ℕ → Option (List ℕ × List ℕ)
-    cut_after word rest = if list_any (λ octet. octet == 32) rest then None else Some (word, rest)
+abbrev pub cut_after : List ℕ → List ℕ → Option (List ℕ × List ℕ)
+cut_after word rest = if list_any (λ octet. octet == 32) rest then None else Some (word, rest)
 
-    abbrev pub cut_at : Option ℕ → Option (List ℕ × List ℕ)
-    cut_at None = None
-    cut_at (Some space) = cut_after (take space text) (drop (space + 1) text)
+abbrev pub cut_at : Option ℕ → List ℕ → Option (List ℕ × List ℕ)
+cut_at None text = None
+cut_at (Some space) text = cut_after (take space text) (drop (space + 1) text)
+
+abbrev pub cut : List ℕ → Option (List ℕ × List ℕ)
+cut text = cut_at (position (λ octet. octet == 32) text) text
 
 -- a scope, a space and an absolute name
 abbrev pub scoped : Place → Option (List ℕ × List ℕ) → Result Names BuildFault

@@ -1,5 +1,5 @@
 -- The members of groups, group by group, with the refusal that comes first.
-use Rattle.std.specs.Prelude.{◌≡◌, ℕ, ◌+◌, List, [], ◌∷◌, ◌++◌, length, Option, Some, None, Result, Ok, Err, nat_lt, if◌then◌else◌, bytes_eq, is_some}
+use Rattle.std.specs.Prelude.{◌≡◌, ℕ, ◌<◌, List, [], ◌∷◌, ◌++◌, length, slice_index_or, Option, Some, None, Result, Ok, Err, nat_lt, if◌then◌else◌, bytes_eq, is_some}
 use Rattle.std.specs.Option.{ok_or}
 use Rattle.policy_build.specs.declared.build_fault.BuildFault.{BuildFault}
 use Rattle.policy_build.specs.declared.build_fault.BuildFault.TheVariants.{Repeated, UnknownGroup, TooManyMembers}
@@ -20,6 +20,11 @@ pub record RowOf (X : Type 0) : Type 0 where
 abbrev pub row_called : {X : Type 0} → List ℕ → List (RowOf X) → Option (List X)
 row_called id [] = None
 row_called id (row ∷ rows) = if bytes_eq row.id id then Some row.members else row_called id rows
+
+-- the row at a place is the first that is called so
+pub record IsRowAt {X : Type 0} (id : List ℕ) (rows : List (RowOf X)) (k : ℕ) : Type 0 where
+  pub within : k < length rows
+  pub called : (d : RowOf X) → row_called id rows ≡ Some (slice_index_or rows k d).members
 
 -- a member itself, or those of the group that it names
 abbrev pub members_at : {X : Type 0} → Place → List (RowOf X) → Member X → Result (List X) BuildFault

@@ -1,6 +1,7 @@
 //! The rules that a file makes.
 
-ghost use Rattle.std.specs.Prelude.{◌≡◌, ◌≤◌, ◌++◌, [], length, map, IfOk};
+ghost use Rattle.std.specs.Prelude.{◌≡◌, ◌≤◌, ◌++◌, [], length, map, bytes_eq, IfOk};
+ghost use Rattle.std.specs.List.{list_any};
 ghost use Rattle.policy_build.specs.Faults.{Reads};
 ghost use Rattle.policy_build.specs.Entries.{entry_of};
 ghost use Rattle.policy_build.specs.Making.{made_of, pair_of, pairs_with, products, made_id, is_taken, free_id, with_rule, numbered, made_in, made_from, built_of, built_view};
@@ -77,10 +78,17 @@ fn id_text(alloc: Global, id: &[u8], count: usize, number: usize) -> Result<Vec<
 }
 
 /// Whether some rule has this id.
+fn any_has_id(rules: &[MadeRule<'_>], id: &[u8]) -> bool
+    ensures { result ≡ list_any (λ rule. bytes_eq rule.id id.now) rules.now }
+{
+    rules.iter().any(|rule| rule.id.as_bytes() == id)
+}
+
+/// Whether an id is taken by a rule.
 fn has_id(rules: &[MadeRule<'_>], id: &[u8]) -> bool
     ensures { result ≡ is_taken id.now (map made_of rules.now) }
 {
-    rules.iter().any(|rule| rule.id.as_bytes() == id)
+    any_has_id(rules, id)
 }
 
 /// The identifier of a text, unless it is that of a rule before it or of the closing default.

@@ -1,17 +1,21 @@
 //! The rules of the office in its own TOML.
 
 ghost use Rattle.std.specs.Prelude.{◌≡◌, ◌≤◌, List, ℕ, Ok, IfOk, map, string_bytes};
-ghost use Rattle.toml.specs.Data.{string, members_depth, depth, items_depth};
+ghost use Rattle.dns_names.specs.Labels.{IsName};
+ghost use Rattle.dns_names.specs.Spelling.{SpellsAbsolute};
+ghost use Rattle.toml.specs.Data.{string, items_depth, members_depth};
 ghost use Rattle.toml.specs.View.{view, items_view, table_view};
-ghost use Rattle.grant_policy.specs.Documents.{AreRules, SpellsCallers, SpellsRule, SpellsRules, SpellsSelection, document_of};
+ghost use Rattle.grant_policy.specs.Documents.{AreRules, SpellsCallers, SpellsRule, SpellsRules, document_of};
 ghost use Rattle.grant_policy.specs.Reading.{policy_of};
 ghost use Rattle.policy_build.specs.Making.{made_of, rules_made};
 ghost use Rattle.policy_build.specs.Printing.{put_member, selection_data, words_data};
+ghost use Rattle.policy_build.specs.Selections.{IsSelection};
 
 use crate::building::Built;
 use crate::made_rule::MadeRule;
 use crate::selection::Selection;
 use dns_data::RecordType;
+use dns_names::Name;
 use grant_policy::{Action, Callers};
 use std::alloc::{AllocError, Global};
 use toml::{Table, Value};
@@ -58,7 +62,8 @@ fn words_value<T: Word>(alloc: Global, words: &[T]) -> Result<Vec<Value>, AllocE
 
 /// `*`, or an array of the words that are listed. The only error is out of memory.
 fn selection_value<T: Word>(alloc: Global, selection: &Selection<T>) -> Result<Value, AllocError>
-    ensures { IfOk result (λ value. view value ≡ selection_data T.word_text selection.now) }
+    ensures value { IfOk result (λ value. view value ≡ selection_data T.word_text selection.now) }
+    ensures some { IsSelection selection.now }
 {
     match selection.listed() {
         Some(words) => Ok(Value::Array(words_value(alloc, words)?)),
@@ -74,6 +79,16 @@ fn callers_text(callers: &Callers) -> &str
         Callers::Every => "*",
         Callers::One(identifier) => identifier.as_str(),
     }
+}
+
+/// The text of a name. The only error is out of memory.
+fn name_text(alloc: Global, name: &Name) -> Result<String, AllocError>
+    ensures name { IsName name.now }
+    ensures spells { IfOk result (λ text. SpellsAbsolute name.now (string_bytes text)) }
+{
+    // the proof needs that it is a name
+    let _ = name.labels();
+    name.text(alloc)
 }
 
 /// Puts a value at a key of a table. The only error is out of memory.
@@ -97,7 +112,7 @@ fn rule_table(alloc: Global, rule: &MadeRule<'_>) -> Result<Table, AllocError>
     ensures spells { IfOk result (λ table. SpellsRule (made_of rule.now).rule (table_view table)) }
     ensures shallow { IfOk result (λ table. members_depth (table_view table) ≤ 1) }
 {
-    let at = rule.names.at.text(alloc)?;
+    let at = name_text(alloc, &rule.names.at)?;
     let mut table = Table::new(alloc);
     put_text(alloc, &mut table, "id", rule.id.as_str())?;
     put_text(alloc, &mut table, "effect", rule.effect.text())?;
@@ -133,7 +148,11 @@ impl<'a> Built<'a> {
         let tables = rule_tables(alloc, &self.rules)?;
         put(alloc, &mut top, "rule", Value::Array(tables))?;
         match toml::table_to_string(alloc, &top) {
-            Ok(text) => Ok(text),
+            Ok(text) => {
+                // the proof needs that it is UTF-8
+                let _ = text.as_str();
+                Ok(text)
+            }
             Err(_) => Err(AllocError),
         }
     }

@@ -1,8 +1,8 @@
 //! The members of groups, and of lists that name groups.
 
-ghost use Rattle.std.specs.Prelude.{◌≡◌, ◌++◌, ◌≤◌, [], length, map, option_map, IfOk};
+ghost use Rattle.std.specs.Prelude.{◌≡◌, ◌++◌, ◌≤◌, [], length, map, None, IfOk, MatchOption};
 ghost use Rattle.policy_build.specs.Faults.{Reads};
-ghost use Rattle.policy_build.specs.Resolving.{RowOf, row_called, with_member, few_members, members_from, row_in, rows_from};
+ghost use Rattle.policy_build.specs.Resolving.{RowOf, IsRowAt, row_called, with_member, few_members, members_from, row_in, rows_from};
 
 use crate::build_fault::BuildFault;
 use crate::group::Group;
@@ -25,13 +25,13 @@ impl<'a, T> Model for Row<'a, T> {
     ghost view = { λ r. record { id = r.id.now; members = map (λ m. m.now) r.members.items } };
 }
 
-/// The members of the first group that is called so.
-fn members_called<'r, 'a, T>(rows: &'r [Row<'a, T>], id: &Identifier) -> Option<&'r [&'a T]>
-    ensures { option_map (λ members. map (λ m. m.now) members.now) result ≡ row_called id.now rows.now }
+/// The place of the first row of a group that is called so.
+fn row_at<T>(rows: &[Row<'_, T>], id: &Identifier) -> Option<usize>
+    ensures { MatchOption result (row_called id.now rows.now ≡ None) (IsRowAt id.now rows.now) }
 {
-    for row in rows {
+    for (i, row) in rows.iter().enumerate() {
         if row.id.as_bytes() == id.as_bytes() {
-            return Some(row.members.as_slice());
+            return Some(i);
         }
     }
     None
@@ -58,8 +58,11 @@ fn push_member<'a, T>(
 {
     match member {
         Member::One(one) => Ok(members.push(one)?),
-        Member::Group(id) => match members_called(rows, id) {
-            Some(more) => Ok(push_all(members, more)?),
+        Member::Group(id) => match row_at(rows, id) {
+            Some(at) => {
+                let row = &rows[at];
+                Ok(push_all(members, &row.members)?)
+            }
             None => Err(BuildFault::UnknownGroup(place)),
         },
     }
@@ -102,7 +105,7 @@ fn row_of<'a, T>(
 ) -> Result<Row<'a, T>, BuildFault>
     ensures { Reads (λ row. row) result (row_in rows.now group.now) }
 {
-    if members_called(rows, group.id()).is_some() {
+    if row_at(rows, group.id()).is_some() {
         return Err(BuildFault::Repeated(group.place()));
     }
     let place = group.place().at(FileKey::Members);
