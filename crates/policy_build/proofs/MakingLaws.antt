@@ -169,10 +169,10 @@ module _ (entry : EntryOf) (number : ℕ) where
         (λ (n : NonePairMatches ps × (decision asked (rules_made (rest ++ more)) ≡ decision asked (rules_made more))).
         inr (
           λ q c m.
-          ⊎_elim
-          (λ (same : p ≡ q). false≢true (sym no' ∙ tells.1 (same_match [] id p (subst PairMatches (sym same) m))))
-          (λ (later : Contains ps q). n.0 q later m)
-          (first_or_later p ps q c),
+              ⊎_elim
+              (λ (same : p ≡ q). false≢true (sym no' ∙ tells.1 (same_match [] id p (subst PairMatches (sym same) m))))
+              (λ (later : Contains ps q). n.0 q later m)
+              (first_or_later p ps q c),
           passed ∙ n.1,
         ))
         (block_decides ps rest more block))
@@ -260,26 +260,26 @@ module _ (source : SourceOf) (callers : List (RowOf Callers)) (names : List (Row
           block.0 ++ ih.0,
           whole,
           ⊎_elim
-          (λ (d : IsDecidedHere entry number asked (products [] by.cs by.ns) block.0 ih.0).
-          inl (
-            0,
-            entry,
-            record { at = refl; speaking = speaks_from number before entry a.0 by d.pair d.among d.matching; first = λ j earlier lt at s. absurd (omega (arith, lt)) },
-            record { rule = d.rule; contained = Contains-append_left block.0 ih.0 d.rule d.contained; from = omega (arith, d.from); effect = d.effect; decides = d.decides },
-          ))
-          (λ (n : NonePairMatches entry number asked (products [] by.cs by.ns) × (decision asked (rules_made (block.0 ++ ih.0)) ≡ decision asked (rules_made ih.0))).
-          let no : ¬ Speaks source asked entry = λ s. (let p = speaks_to number before entry a.0 by s in n.0 p.0 p.1 p.2) in
-          ⊎_elim
-          (λ (later : (i : ℕ) × (other : EntryOf) × IsFirstEntry source asked entries i other × IsDecidedFor ih.0 asked (number + 1 + i) other).
-          inl (
-            suc later.0,
-            later.1,
-            record { at = later.2.at; speaking = later.2.speaking; first = below_first entry entries later.0 no later.2.first },
-            record { rule = later.3.rule; contained = Contains-append_right block.0 ih.0 later.3.rule later.3.contained; from = omega (arith, later.3.from); effect = later.3.effect; decides = n.1 ∙ later.3.decides },
-          ))
-          (λ (none : NoneSpeaks source asked entries × (decision asked (rules_made ih.0) ≡ denied None)). inr (none_first entry entries no none.0, n.1 ∙ none.1))
-          ih.2)
-          (block_decides entry number asked (products [] by.cs by.ns) block.0 ih.0 block.2),
+              (λ (d : IsDecidedHere entry number asked (products [] by.cs by.ns) block.0 ih.0).
+              inl (
+                0,
+                entry,
+                record { at = refl; speaking = speaks_from number before entry a.0 by d.pair d.among d.matching; first = λ j earlier lt at s. absurd (omega (arith, lt)) },
+                record { rule = d.rule; contained = Contains-append_left block.0 ih.0 d.rule d.contained; from = omega (arith, d.from); effect = d.effect; decides = d.decides },
+              ))
+              (λ (n : NonePairMatches entry number asked (products [] by.cs by.ns) × (decision asked (rules_made (block.0 ++ ih.0)) ≡ decision asked (rules_made ih.0))).
+              let no : ¬ Speaks source asked entry = λ s. (let p = speaks_to number before entry a.0 by s in n.0 p.0 p.1 p.2) in
+              ⊎_elim
+              (λ (later : (i : ℕ) × (other : EntryOf) × IsFirstEntry source asked entries i other × IsDecidedFor ih.0 asked (number + 1 + i) other).
+              inl (
+                suc later.0,
+                later.1,
+                record { at = later.2.at; speaking = later.2.speaking; first = below_first entry entries later.0 no later.2.first },
+                record { rule = later.3.rule; contained = Contains-append_right block.0 ih.0 later.3.rule later.3.contained; from = omega (arith, later.3.from); effect = later.3.effect; decides = n.1 ∙ later.3.decides },
+              ))
+              (λ (none : NoneSpeaks source asked entries × (decision asked (rules_made ih.0) ≡ denied None)). inr (none_first entry entries no none.0, n.1 ∙ none.1))
+              ih.2)
+              (block_decides entry number asked (products [] by.cs by.ns) block.0 ih.0 block.2),
         )
 
 -- the parts of what is built

@@ -134,8 +134,8 @@ spelled_more rules i rule tables m lt is spelled shallow s a =
     ∙ map-append (λ (made : MadeOf). made.rule) (map made_of (take i rules)) (made_of rule ∷ []) in
     let pushed : items_view (tables ++ Table m ∷ []) ≡ push_item (items_view tables) (table (table_view m)) = items_view-push tables (Table m) ∙ ap (push_item (items_view tables)) (view-Table m) in (
       subst (λ (l : List Rule). SpellsRules l (items_view (tables ++ Table m ∷ []))) (sym grown)
-      (subst (λ (l : Items). SpellsRules (rules_made (map made_of (take i rules)) ++ (made_of rule).rule ∷ []) l) (sym pushed)
-      (spelled_push (rules_made (map made_of (take i rules))) (items_view tables) (made_of rule).rule (table_view m) spelled s)),
+          (subst (λ (l : Items). SpellsRules (rules_made (map made_of (take i rules)) ++ (made_of rule).rule ∷ []) l) (sym pushed)
+          (spelled_push (rules_made (map made_of (take i rules))) (items_view tables) (made_of rule).rule (table_view m) spelled s)),
       subst (λ (l : Items). items_depth l ≤ 2) (sym pushed) (shallow_push (items_view tables) (table_view m) shallow a),
     )
 

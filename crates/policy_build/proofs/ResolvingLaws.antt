@@ -209,8 +209,8 @@ module _ {X : Type 0} (all : List (GroupOf X)) (any : Place) where
         b.0,
         called_new rows (row_for group b.0) fresh,
         λ m c.
-        let g = members_there (at_key group.place key.Members) rows [] group.members b.0 b.1 m c in
-        (g.0, at_more any rows (row_for group b.0) m g.0 (at_any (at_key group.place key.Members) any rows m g.0 g.1), g.2),
+            let g = members_there (at_key group.place key.Members) rows [] group.members b.0 b.1 m c in
+            (g.0, at_more any rows (row_for group b.0) m g.0 (at_any (at_key group.place key.Members) any rows m g.0 g.1), g.2),
       ) in
       ⊎_elim
       (λ (old : Contains done other). whole_later rows row other (whole other old))
@@ -245,13 +245,12 @@ module _ {X : Type 0} (all : List (GroupOf X)) (any : Place) where
 pub resolved : {X : Type 0} (groups : List (GroupOf X)) (rows : List (RowOf X)) → rows_from [] groups ≡ Ok rows
     → (place : Place) (ms : List (Member X)) (xs : List X) → members_from place rows [] ms ≡ Ok xs → (x : X) → Contains xs x ↔ IsAmong groups ms x
 resolved {X} groups rows made place ms xs e x =
-    let are = rows_are groups place [] [] groups rows refl nothing_sound nothing_whole made in
-    (
+    let are = rows_are groups place [] [] groups rows refl nothing_sound nothing_whole made in (
       λ c.
-      ⊎_elim
-      (λ (h : Contains [] x). absurd (none_in x h))
-      (λ (h : IsGiven place rows ms x). (h.0, h.1, given_stands groups place place rows are.0 h.0 h.2 h.3 x h.4))
-      (members_found place rows [] ms xs e x c),
+          ⊎_elim
+          (λ (h : Contains [] x). absurd (none_in x h))
+          (λ (h : IsGiven place rows ms x). (h.0, h.1, given_stands groups place place rows are.0 h.0 h.2 h.3 x h.4))
+          (members_found place rows [] ms xs e x c),
       λ (h : IsAmong groups ms x). let g = members_there place rows [] ms xs e h.0 h.1 in g.2 x (stands_given groups place rows are.1 x h.2 g.0 g.1),
     )
   where

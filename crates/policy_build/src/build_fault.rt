@@ -98,10 +98,18 @@ impl Display for BuildFault {
             BuildFault::UnknownGroup(place) => write!(f, "{place} names no group above it"),
             BuildFault::UnknownTemplate(place) => write!(f, "{place} names no template"),
             BuildFault::TooManyMembers(place, count) => {
-                write!(f, "{place} has {count} members, more than {}", Policy::RULES_MAX)
+                write!(
+                    f,
+                    "{place} has {count} members, more than {}",
+                    Policy::RULES_MAX
+                )
             }
             BuildFault::TooManyRules(place, count) => {
-                write!(f, "{place} makes {count} rules with those before it, more than {}", Policy::RULES_MAX)
+                write!(
+                    f,
+                    "{place} makes {count} rules with those before it, more than {}",
+                    Policy::RULES_MAX
+                )
             }
         }
     }

@@ -193,10 +193,7 @@ fn push_entry<'a>(
     let callers = members_of(alloc, place, &groups.callers, entry.callers.members)?;
     let place = entry.names.place.at(FileKey::Names);
     let names = members_of(alloc, place, &groups.names, entry.names.members)?;
-    check_count(
-        entry.place,
-        rules.len() + callers.len() * names.len(),
-    )?;
+    check_count(entry.place, rules.len() + callers.len() * names.len())?;
     let pairs = pairs_of(alloc, &callers, &names)?;
     push_rules(alloc, rules, number, entry, &pairs)
 }

@@ -5,11 +5,11 @@ ghost use Rattle.policy_build.specs.Faults.{Reads};
 ghost use Rattle.policy_build.specs.Entries.{entry_of, listing_of, listing, plain, used, used_id, called, few_rules, fresh_templates, with_plain, with_use, with_template, entries_of, entries_in};
 
 use crate::build_fault::BuildFault;
+use crate::group_rule::GroupRule;
+use crate::list_or_parameter::ListOrParameter;
 use crate::member::Member;
 use crate::names::Names;
 use crate::place::{FileKey, Place};
-use crate::group_rule::GroupRule;
-use crate::list_or_parameter::ListOrParameter;
 use crate::source::Source;
 use crate::statement::Statement;
 use crate::template::Template;

@@ -38,11 +38,7 @@ pub(crate) fn table_at(place: Place, value: &Value) -> Result<&Table, BuildFault
 }
 
 /// The items of an array, in order.
-fn items<T: FromToml>(
-    alloc: Global,
-    place: Place,
-    values: &[Value],
-) -> Result<Vec<T>, BuildFault>
+fn items<T: FromToml>(alloc: Global, place: Place, values: &[Value]) -> Result<Vec<T>, BuildFault>
     ensures { Reads (λ items. items.items) result (items_from T.read_of place [] (items_view values.now)) }
 {
     let mut items = Vec::new(alloc);

@@ -9,8 +9,8 @@ ghost use Rattle.policy_build.specs.Reading.{group_in, rule_in, template_in, use
 use crate::build_fault::BuildFault;
 use crate::from_toml::{FromToml, at_key, check_keys, list_at, optional_list_at, table_at};
 use crate::group::Group;
-use crate::place::{FileKey, Place};
 use crate::group_rule::GroupRule;
+use crate::place::{FileKey, Place};
 use crate::source::Source;
 use crate::statement::Statement;
 use crate::template::Template;

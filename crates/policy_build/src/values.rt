@@ -8,10 +8,10 @@ ghost use Rattle.policy_build.specs.Reading.{word_of, identifier_in, name_in, cu
 
 use crate::build_fault::BuildFault;
 use crate::from_toml::{FromToml, list, text_at};
+use crate::list_or_parameter::ListOrParameter;
 use crate::member::Member;
 use crate::names::Names;
 use crate::place::Place;
-use crate::list_or_parameter::ListOrParameter;
 use crate::selection::Selection;
 use dns_data::RecordType;
 use dns_names::Name;

@@ -35,7 +35,14 @@ fn print_actions(rt: &HostRuntime, rule: &Rule) -> io::Result<()> {
 }
 
 fn print_rule(rt: &HostRuntime, rule: &Rule) -> io::Result<()> {
-    print!(rt; "{} {} {} {} {}", rule.id.as_str(), rule.effect.text(), callers_text(&rule.callers), rule.scope.text(), rule.at)?;
+    print!(rt;
+        "{} {} {} {} {}",
+        rule.id.as_str(),
+        rule.effect.text(),
+        callers_text(&rule.callers),
+        rule.scope.text(),
+        rule.at
+    )?;
     print_types(rt, rule)?;
     print_actions(rt, rule)?;
     println!(rt; "")

@@ -25,3 +25,10 @@ fits c =
 
 pub push_rules-requires : goal.push_rules-requires
 push_rules-requires c = omega (arith, fits c, ap (length {A = Pair}) c.deref-5.ensures.value)
+
+pub returns-clause-few : goal.returns-clause-few
+returns-clause-few c =
+    let a : c.len-2.result ≡ length c.deref-3.result.now = omega (arith, ap (length {A = Bor Callers}) c.deref-3.ensures.value) in
+    let b : c.len-3.result ≡ length c.deref-4.result.now = omega (arith, ap (length {A = Bor Names}) c.deref-4.ensures.value) in
+    let fit = pairs_fit c.in_ok-pairs.pairs.items c.deref-3.result.now c.deref-4.result.now c.len.result c.len-2.result c.len-3.result c.in_ok-pairs.ensures a b c.in_ok-check_count.ensures.few in
+    few_kept c.push_rules.result (entry_of c.args.entry.now) c.args.number (length c.deref-5.result.now) 1 c.args.rules.now.items c.push_rules.new.rules.items (map pair_of c.deref-5.result.now) c.push_rules.ensures (omega (arith, fit, length-map c.deref-5.result.now pair_of, ap (length {A = Pair}) c.deref-5.ensures.value))
