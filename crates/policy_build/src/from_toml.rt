@@ -1,10 +1,12 @@
 //! What is read of the values of a TOML document.
 
-ghost use Rattle.std.specs.Prelude.{◌≡◌, [], bytes_eq, string_bytes};
+ghost use Rattle.std.specs.Prelude.{◌≡◌, Result, [], bytes_eq, string_bytes};
 ghost use Rattle.std.specs.BTreeMap.{keys};
 ghost use Rattle.std.specs.List.{list_any, list_all};
 ghost use Rattle.toml.specs.Data.{Data};
 ghost use Rattle.toml.specs.View.{view, items_view, table_view};
+ghost use Rattle.policy_build.specs.declared.build_fault.BuildFault.{BuildFault as FaultOf};
+ghost use Rattle.policy_build.specs.declared.place.Place.{Place as PlaceOf};
 ghost use Rattle.policy_build.specs.Faults.{Reads};
 ghost use Rattle.policy_build.specs.Places.{key_text};
 ghost use Rattle.policy_build.specs.Reading.{text_in, table_in, items_from, one_of, list_of, key_of, optional_of, known_keys};
@@ -16,7 +18,7 @@ use toml::{Table, Value};
 
 /// What a value of a document may stand for.
 pub(crate) trait FromToml: Drop {
-    ghost read_of: { Place → Data → Result Self BuildFault };
+    ghost read_of: { PlaceOf → Data → Result Self FaultOf };
 
     /// What the value at a place stands for, or the refusal that comes first.
     fn read(alloc: Global, place: Place, value: &Value) -> Result<Self, BuildFault>

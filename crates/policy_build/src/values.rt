@@ -1,8 +1,10 @@
 //! The values of a file of groups.
 
-ghost use Rattle.std.specs.Prelude.{◌≡◌, List, ℕ, option_map, codes};
+ghost use Rattle.std.specs.Prelude.{◌≡◌, Result, List, ℕ, option_map, codes};
 ghost use Rattle.toml.specs.Data.{Data};
 ghost use Rattle.toml.specs.View.{view};
+ghost use Rattle.policy_build.specs.declared.build_fault.BuildFault.{BuildFault as FaultOf};
+ghost use Rattle.policy_build.specs.declared.place.Place.{Place as PlaceOf};
 ghost use Rattle.policy_build.specs.Faults.{Reads};
 ghost use Rattle.policy_build.specs.Reading.{word_of, identifier_in, name_in, cut, names_in, list_unless};
 
@@ -21,7 +23,7 @@ use toml::Value;
 
 /// What a text may stand for.
 pub(crate) trait FromText: Drop {
-    ghost text_of: { Place → List ℕ → Result Self BuildFault };
+    ghost text_of: { PlaceOf → List ℕ → Result Self FaultOf };
 
     /// What the text at a place stands for, or the refusal that comes first.
     fn of_text(alloc: Global, place: Place, text: &str) -> Result<Self, BuildFault>
