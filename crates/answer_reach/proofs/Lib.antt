@@ -1,0 +1,8 @@
+pub mod PossibleLemmas
+pub mod FoundLemmas
+pub mod AnswerLemmas
+pub mod MadeLemmas
+pub mod NamedLemmas
+pub mod GrowLemmas
+pub mod ComputedLemmas
+pub mod ReachedLemmas

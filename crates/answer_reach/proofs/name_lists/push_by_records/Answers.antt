@@ -1,0 +1,19 @@
+use Rattle.std.proofs.Common.{◌++◌, List, [], ◌∷◌, cond, sym, ap, ◌∙◌, append-nil}
+use Rattle.std.specs.List.{flat_map}
+use Rattle.zone_core.proofs.BehindLemmas.{behind_all, behind_more, flat_map_push}
+use Rattle.answer_reach.specs.ReachTests.{named_by}
+use Rattle.answer_reach.proofs.name_lists.push_by_records.Goals as goal
+
+pub loop-record-init : goal.loop-record-init
+loop-record-init c = sym (append-nil c.args.names.now.items)
+
+pub loop-record-preserved : goal.loop-record-preserved
+loop-record-preserved c =
+    let here = (named_by c.args.origin.now) in
+    let item = c.record-item.result in
+    behind_more (flat_map here) c.args.names.now.items c.args.records.now c.loop-record.record-index item (here item) (flat_map_push here item) c.loop-record-test.true c.record-item.is c.loop-record.invariant c.in_ok-push_named.ensures
+
+pub returns : goal.returns
+returns c =
+    let here = (named_by c.args.origin.now) in
+    behind_all (flat_map here) c.args.names.now.items c.args.records.now c.loop-record.record-index c.loop-record.invariant c.loop-record-test.false

@@ -1,0 +1,4 @@
+pub mod Turns
+pub mod Reach
+pub mod ReachedGroups
+pub mod ReachTests
