@@ -107,8 +107,12 @@ module _ (rules : List Rule) (caller : List ℕ) (origin : Name) (rs ys : List R
         let r = lead.1.0 in
         let target = lead.1.3.0 in (
           lead.0,
-          (r, finds name (never [] name refl) (Alias r) lead.1.1, lead.1.2,
-          (target, lead.1.3.1, leads aliases (earlier ++ alias ∷ []) target last (λ some at more. never (alias ∷ some) at (lead.0, (r, lead.1.1, lead.1.2, (target, lead.1.3.1, more)))) lead.1.3.2)),
+          (
+            r,
+            finds name (never [] name refl) (Alias r) lead.1.1,
+            lead.1.2,
+            (target, lead.1.3.1, leads aliases (earlier ++ alias ∷ []) target last (λ some at more. never (alias ∷ some) at (lead.0, (r, lead.1.1, lead.1.2, (target, lead.1.3.1, more)))) lead.1.3.2),
+          ),
         )
 
     ends : (aliases : List Record) (last : Name) → ¬ MayChange rules caller origin rs last asked → (found : Found) → Ends origin rs asked aliases last found → Ends origin ys asked aliases last found

@@ -73,10 +73,13 @@ module _ (rules : List Rule) (caller : List ℕ) (origin : Name) (rs : List Reco
               apart t =
                   let away : ¬ IsWithin other cut = λ w. no_test (is_within other cut) ((is_within-Decides other cut).1 w) t in
                   kept (
-                    other, within, (there.0, inl e), (λ same. away (subst (λ (n : Name). IsWithin n cut) same.0 is.0.over)),
+                    other,
+                    within,
+                    (there.0, inl e),
+                    (λ same. away (subst (λ (n : Name). IsWithin n cut) same.0 is.0.over)),
                     (λ top stays below.
-                    let here = cut_moves rs ys itself from top stays.1 stays.0 in
-                    away (within_within other top cut below.0 (is.0.outermost top here (within_within name other top within below.0)))),
+                        let here = cut_moves rs ys itself from top stays.1 stays.0 in
+                        away (within_within other top cut below.0 (is.0.outermost top here (within_within name other top within below.0)))),
                   )
 
       pub referral_moves : (cut : Name) → IsReferred origin ys name asked cut → IsReferred origin zs name asked cut
@@ -115,8 +118,11 @@ module _ (rules : List Rule) (caller : List ℕ) (origin : Name) (rs : List Reco
         wildcard_kept (record { front = front; label = label; encloser = encloser; split = over.3; there = may; applies = applies; changes = inr (inl m) }) in
         let wild : Exists zs (asterisk ∷ encloser) = must_there rules caller origin rs zs to (asterisk ∷ encloser) sure in
         let none : ¬ Exists zs (label ∷ encloser) = λ e. never (may_there rules caller origin rs zs to home (label ∷ encloser) e) in (
-          subst (Exists zs) (sym is) wild, (λ e. none (exists_above zs name front (label ∷ encloser) over.3 e),
-          (front, label, encloser, over.3, exists_above zs (asterisk ∷ encloser) (asterisk ∷ []) encloser refl wild, none, is)),
+          subst (Exists zs) (sym is) wild,
+          (
+            λ e. none (exists_above zs name front (label ∷ encloser) over.3 e),
+            (front, label, encloser, over.3, exists_above zs (asterisk ∷ encloser) (asterisk ∷ []) encloser refl wild, none, is),
+          ),
         )
 
     pub source_moves : (source : Name) → IsSourceOf ys name source → IsSourceOf zs name source
@@ -184,7 +190,11 @@ module _ (rules : List Rule) (caller : List ℕ) (origin : Name) (rs : List Reco
         let source = is.1.0 in
         let at = is.1.1 in (
           own_there is.0,
-          (source, there is.0 source at, (λ r f. is.1.2 r (followed_back is.0 source at r f)),
-          is.1.3 ∙ same_asked rules caller origin rs ys zs from to source asked (fixed is.0 source at)),
+          (
+            source,
+            there is.0 source at,
+            (λ r f. is.1.2 r (followed_back is.0 source at r f)),
+            is.1.3 ∙ same_asked rules caller origin rs ys zs from to source asked (fixed is.0 source at),
+          ),
         )
     finds_moves Again never = absurd never

@@ -1,11 +1,18 @@
 -- Lists that loops make, and names that are searched.
-use Rattle.std.proofs.Common.{◌≡◌, ℕ, ◌+◌, ◌<◌, ◌≤◌, List, [], ◌∷◌, ◌++◌, length, get_or, take, Bool, true, false, cond, ◌||◌, Option, Some, None, Result, Ok, Err, is_ok, refl, sym, ap, subst, ◌∙◌, arith, append-nil, inl, inr}
+use Rattle.std.proofs.Common.{◌≡◌, ℕ, ◌+◌, ◌<◌, ◌≤◌, List, [], ◌∷◌, ◌++◌, length, get_or, take, Bool, true, false, cond, ◌||◌, ◌==◌, Option, Some, None, Result, Ok, Err, is_ok, refl, sym, ap, subst, ◌∙◌, arith, append-nil, inl, inr}
 use Rattle.std.specs.declared.cmp.Ordering.TheVariants.{Less, Equal, Greater}
 use Rattle.std.specs.Ordering.{is_eq}
 use Rattle.std.specs.Cmp.{tied_itself}
 use Rattle.std.specs.List.{list_any, filter}
 use Rattle.std.specs.List.Sorted.{IsSorted, IsStrictlySortedBy, IsBinarySearchResult, IsSearchInRange}
-use Rattle.std.proofs.lemmas.Bool.{false_from_ne_true, cases_lt}
+use Rattle.std.specs.Bool.{Decides}
+use Rattle.std.proofs.lemmas.Bool.{false_from_ne_true, cases_lt, eqb-true}
+use Rattle.std.proofs.lemmas.Bool.Decides.{same_from_decides, Decides-eqb}
+use Rattle.dns_data.specs.declared.record_type.RecordType.{RecordType}
+use Rattle.dns_data.specs.Types.{type_number}
+use Rattle.dns_data.proofs.RecordOrderLemmas.{one_rank}
+use Rattle.grant_policy.proofs.WordLemmas.{same_type-Decides}
+use Rattle.zone_core.specs.Sets.{rank_of}
 use Rattle.std.proofs.lemmas.List.{take_more}
 use Rattle.std.proofs.lemmas.List.Folds.{list_any_at, list_any_none}
 use Rattle.std.proofs.lemmas.List.Sorted.{searchable_from_sorted}
@@ -23,7 +30,7 @@ use Rattle.zone_answers.specs.Answers.{Name, asterisk}
 use Rattle.zone_answers.proofs.CutLemmas.{sorted_names}
 use Rattle.zone_answers.specs.declared.query_type.QueryType.{QueryType}
 use Rattle.answer_reach.specs.declared.reached.ReachedNames.{ReachedNames}
-use Rattle.answer_reach.specs.ReachTests.{has_name, is_long, if_types, AreSorted, IsMap, comes_under, stays_cut, opens}
+use Rattle.answer_reach.specs.ReachTests.{has_name, within_any, is_long, if_types, AreSorted, IsMap, comes_under, stays_cut, opens}
 
 -- ---- lists that grow
 
@@ -110,3 +117,17 @@ map_sorted rules caller origin rs names m order is =
       cuts = chosen (stays_cut rules caller origin rs) m.cuts.items is.cuts;
       openers = chosen (opens rules caller origin rs m.cuts.items) m.openers.items is.openers;
     }
+
+-- ---- types
+
+-- types are one by their numbers exactly where they are by their ranks
+pub type_same : (a b : RecordType) → (type_number a == type_number b) ≡ (rank_of a == rank_of b)
+type_same a b = same_from_decides (type_number a == type_number b) (rank_of a == rank_of b) (same_type-Decides a b) (ranks a b)
+  where
+    ranks : (a b : RecordType) → Decides (rank_of a == rank_of b) (a ≡ b)
+    ranks a b = (λ e. one_rank a b (eqb-true (rank_of a) (rank_of b) e), λ e. ap (λ (t : RecordType). rank_of a == rank_of t) (sym e) ∙ (Decides-eqb (rank_of a) (rank_of a)).1 refl)
+
+-- a name that is one of some names is at or below one
+pub within_has : (names : List Name) (name : Name) → has_name names name ≡ true → within_any names name ≡ true
+within_has names [] e = e
+within_has names (label ∷ labels) e = ap (λ b. b || within_any names labels) e

@@ -6,3 +6,4 @@ pub mod NamedLemmas
 pub mod GrowLemmas
 pub mod ComputedLemmas
 pub mod ReachedLemmas
+pub mod RowOrderLemmas

@@ -312,7 +312,9 @@ module _ (rules : List Rule) (caller : List ℕ) (origin : Name) (rs : List Reco
               let found = some_found after (at r.owner (type_of r.rdata)) t in
               let place = at_is r.owner (type_of r.rdata) found.0 found.2 in
               let key = (kept found.0 found.1 found.3).0 in (
-                found.1, ap (get after) key ∙ found.3, ap (λ (k : Key). k.0) key ∙ place.0,
+                found.1,
+                ap (get after) key ∙ found.3,
+                ap (λ (k : Key). k.0) key ∙ place.0,
                 one_rank (type_of found.1.rdata) (type_of r.rdata) (ap (λ (k : Key). k.1) key ∙ place.1),
               )
 
@@ -481,15 +483,17 @@ module _ (rules : List Rule) (caller : List ℕ) (before : ZoneOf) (whole : IsZo
       let is = made.1.0 in
       let rows = listed after.records is.kept in (
         made.0,
-        (subst (λ (o : Name). AreOfZone o (listing after.records)) made.0 (zone_rows after is),
-        record {
-          order = rows.order;
-          is =
-              record {
-                comes = λ r a. made.1.1.comes r ((among_rows after is r).0 a);
-                goes = λ r a. (elim (made.1.1.goes r a) [ inl here ↦ inl ((among_rows after is r).1 here) | inr other ↦ inr other ]);
-                stays = λ r a e. (let s = made.1.1.stays r a e in (s.0, (among_rows after is s.0).1 s.1, s.2, s.3));
-                soa = λ r a. made.1.1.soa r ((among_rows after is r).0 a);
-              };
-        }),
+        (
+          subst (λ (o : Name). AreOfZone o (listing after.records)) made.0 (zone_rows after is),
+          record {
+            order = rows.order;
+            is =
+                record {
+                  comes = λ r a. made.1.1.comes r ((among_rows after is r).0 a);
+                  goes = λ r a. (elim (made.1.1.goes r a) [ inl here ↦ inl ((among_rows after is r).1 here) | inr other ↦ inr other ]);
+                  stays = λ r a e. (let s = made.1.1.stays r a e in (s.0, (among_rows after is s.0).1 s.1, s.2, s.3));
+                  soa = λ r a. made.1.1.soa r ((among_rows after is r).0 a);
+                };
+          },
+        ),
       )

@@ -81,8 +81,11 @@ module _ (origin : Name) (rs : List Record) (asked : QueryType) (one : HasOneAli
       let first_rest : Lead origin rs asked (earlier ++ y ∷ []) target some last = subst (λ (a : Record). Lead origin rs asked (earlier ++ a ∷ []) target some last) alike lead.1.3.2 in
       let later = prefix some all (earlier ++ y ∷ []) target last end found first_rest rest (subst (λ (l : List Record). Ends origin rs asked l end found) (sym (append_assoc earlier (y ∷ []) all)) ends) in
       (elim later [
-        | inl here ↦ inr (lead.1.1.1.2.0, (y, inl refl, sym (ap (λ (a : Record). a.rdata) alike) ∙ lead.1.3.1 ∙ ap variants.Cname (sym here)),
-            (r, lead.1.1.1.2.1, ap (λ (a : Record). a.rdata) (sym lead.1.2) ∙ lead.1.3.1 ∙ ap variants.Cname (sym here)))
+        | inl here ↦ inr (
+          lead.1.1.1.2.0,
+          (y, inl refl, sym (ap (λ (a : Record). a.rdata) alike) ∙ lead.1.3.1 ∙ ap variants.Cname (sym here)),
+          (r, lead.1.1.1.2.1, ap (λ (a : Record). a.rdata) (sym lead.1.2) ∙ lead.1.3.1 ∙ ap variants.Cname (sym here)),
+        )
         | inr further ↦ inr (further.0, (further.1.0, inr further.1.1, further.1.2), further.2)
       ])
 

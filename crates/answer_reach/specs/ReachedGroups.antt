@@ -45,3 +45,7 @@ place_in (Others above) = 1
 -- groups by their names in canonical order (RFC 4034 section 6.1)
 abbrev pub group_cmp : ReachedNames → ReachedNames → Ordering
 group_cmp = then_cmp (on name_in canonical_cmp) (on place_in nat_cmp)
+
+-- the group of a known name within the origin, or of those below it
+abbrev pub IsGroup : Name → List Rule → List Record → ReachedNames → Type 0
+IsGroup origin rules rs group = IsWithin (name_in group) origin × IsNamed rules rs (name_in group)

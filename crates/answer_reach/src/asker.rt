@@ -30,6 +30,7 @@ pub(crate) struct Asker<'a> {
 }
 
 /// Whether two types are one.
+#[tactic(auto, using(crate::proofs::GrowLemmas::type_same))]
 pub(crate) fn is_type(record_type: RecordType, other: RecordType) -> bool
     ensures { result ≡ is_type record_type other }
 {
@@ -101,7 +102,14 @@ fn is_granted(
     ensures { result ≡ is_granted (decision (question caller.now name.now record_type action) policy.now) }
 {
     matches!(
-        decide(policy, caller, name, record_type, action, &mut LookUps::new()),
+        decide(
+            policy,
+            caller,
+            name,
+            record_type,
+            action,
+            &mut LookUps::new()
+        ),
         Decision::Granted(_)
     )
 }
@@ -274,22 +282,25 @@ impl<'a> Asker<'a> {
     fn comes_at(&self, name: &Name) -> bool
         ensures { result ≡ comes_at self.now.policy.now self.now.caller.now self.now.index.now.origin (listing self.now.index.now.records) name.now }
     {
-        RecordType::ALL.iter().any(|record_type| self.may_come(name, *record_type))
+        RecordType::ALL
+            .iter()
+            .any(|record_type| self.may_come(name, *record_type))
     }
 
     /// Whether records of a type may come at names below one, at or below which no rule is.
     fn may_come_under(&self, above: &Name, record_type: RecordType) -> bool
         ensures { result ≡ (not (is_type record_type types.Soa) && may_under self.now.policy.now self.now.caller.now actions.Add above.now record_type) }
     {
-        !is_type(record_type, RecordType::Soa)
-            && self.may_under(Action::Add, above, record_type)
+        !is_type(record_type, RecordType::Soa) && self.may_under(Action::Add, above, record_type)
     }
 
     /// The same, of some type.
     pub(crate) fn comes_under(&self, above: &Name) -> bool
         ensures { result ≡ comes_under self.now.policy.now self.now.caller.now self.now.index.now.origin (listing self.now.index.now.records) above.now }
     {
-        RecordType::ALL.iter().any(|record_type| self.may_come_under(above, *record_type))
+        RecordType::ALL
+            .iter()
+            .any(|record_type| self.may_come_under(above, *record_type))
     }
 
     /// Whether records of some type may come at a name or at such names below it.
@@ -318,14 +329,18 @@ impl<'a> Asker<'a> {
     fn updates_at(&self, name: &Name) -> bool
         ensures { result ≡ updates_at self.now.policy.now self.now.caller.now self.now.index.now.origin (listing self.now.index.now.records) name.now }
     {
-        RecordType::ALL.iter().any(|record_type| self.may_update(name, *record_type))
+        RecordType::ALL
+            .iter()
+            .any(|record_type| self.may_update(name, *record_type))
     }
 
     /// Whether some change is granted at such names below it.
     fn updates_under(&self, above: &Name) -> bool
         ensures { result ≡ updates_under self.now.policy.now self.now.caller.now self.now.index.now.origin (listing self.now.index.now.records) above.now }
     {
-        RecordType::ALL.iter().any(|record_type| self.may_update_under(above, *record_type))
+        RecordType::ALL
+            .iter()
+            .any(|record_type| self.may_update_under(above, *record_type))
     }
 
     /// Whether some change is granted at a name or at such names below it.

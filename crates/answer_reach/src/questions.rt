@@ -65,11 +65,7 @@ fn push_target(alloc: Global, names: &mut Vec<Name>, rdata: &Data) -> Result<(),
 }
 
 /// Appends the targets of aliases. The only error is out of memory.
-fn push_targets(
-    alloc: Global,
-    names: &mut Vec<Name>,
-    records: &[Record],
-) -> Result<(), AllocError>
+fn push_targets(alloc: Global, names: &mut Vec<Name>, records: &[Record]) -> Result<(), AllocError>
     ensures { IfOk result (λ _. names.new.items ≡ names.old.items ++ targets records.now) }
 {
     for record in records {
@@ -114,9 +110,7 @@ fn alias_by<'a>(
     ensures { IfOk result (λ found. option_copied found ≡ alias_by (listing zone.now.records) above.now) }
 {
     match wildcard(alloc, above)? {
-        Some(name) => {
-            Ok(asked_at(zone, &name, QueryType::Kept(RecordType::Cname)).first())
-        }
+        Some(name) => { Ok(asked_at(zone, &name, QueryType::Kept(RecordType::Cname)).first()) }
         None => Ok(None),
     }
 }
@@ -173,9 +167,7 @@ impl<'a> Asker<'a> {
     fn records_may_change(&self, lists: &ReachMap, name: &Name, asked: QueryType) -> bool
         ensures { result ≡ records_may_change self.now.policy.now self.now.caller.now self.now.index.now.origin (listing self.now.index.now.records) lists.now name.now asked }
     {
-        RecordType::ALL
-            .iter()
-            .any(|record_type| self.type_may_change(name, asked, *record_type))
+        RecordType::ALL.iter().any(|record_type| self.type_may_change(name, asked, *record_type))
             || self.serial_matters(lists, name, asked)
     }
 

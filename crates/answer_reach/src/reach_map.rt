@@ -115,12 +115,7 @@ impl<'a> Asker<'a> {
     }
 
     /// Appends a name, if a cut stays there. The only error is out of memory.
-    fn push_cut(
-        &self,
-        alloc: Global,
-        names: &mut Vec<Name>,
-        name: &Name,
-    ) -> Result<(), AllocError>
+    fn push_cut(&self, alloc: Global, names: &mut Vec<Name>, name: &Name) -> Result<(), AllocError>
         ensures { IfOk result (λ _. names.new.items ≡ names.old.items ++ (if stays_cut self.now.policy.now self.now.caller.now self.now.index.now.origin (listing self.now.index.now.records) name.now then name.now ∷ [] else [])) }
     {
         if self.stays_cut(name) {
@@ -170,12 +165,7 @@ impl<'a> Asker<'a> {
     }
 
     /// Cuts that may change, and are below none of some cuts. The only error is out of memory.
-    fn openers(
-        &self,
-        alloc: Global,
-        cuts: &[Name],
-        known: &[Name],
-    ) -> Result<Vec<Name>, AllocError>
+    fn openers(&self, alloc: Global, cuts: &[Name], known: &[Name]) -> Result<Vec<Name>, AllocError>
         requires { IsSorted canonical_cmp cuts.now }
         ensures { IfOk result (λ names. names.items ≡ filter (opens self.now.policy.now self.now.caller.now self.now.index.now.origin (listing self.now.index.now.records) cuts.now) known.now) }
     {

@@ -9,7 +9,7 @@ ghost use Rattle.zone_answers.specs.AnswerChanges.{Differs, AreTypes};
 ghost use Rattle.zone_answers.specs.declared.query_type.QueryType.{QueryType};
 ghost use Rattle.answer_reach.specs.declared.reached.ReachedAnswers.{ReachedAnswers};
 ghost use Rattle.answer_reach.specs.Turns.{CanMake};
-ghost use Rattle.answer_reach.specs.ReachedGroups.{IsListed, group_cmp};
+ghost use Rattle.answer_reach.specs.ReachedGroups.{IsListed, IsGroup, group_cmp};
 ghost use Rattle.answer_reach.specs.ReachTests.{AreSorted, reaches_in, types_in, row_of, row_for, rows_at, rows_for, AreRowsOf};
 
 use crate::asker::Asker;
@@ -155,8 +155,17 @@ impl<'a> Asker<'a> {
     }
 }
 
-/// The questions that a caller can have answered otherwise than by a zone, by any updates that a policy lets it make from this zone on,
-/// nobody else acting; but for the serial of an SOA in the authority section.
+/// The questions that a caller can have answered otherwise than by a zone, by any updates that a policy lets it make from this zone on, in
+/// whatever order, nobody else acting; but for the serial of an SOA in the authority section: over all names, as groups of names in
+/// canonical order, each in at most one row.
+///
+/// A row may have a question whose answer stays: where a name that comes to exist, or ceases to, and a wildcard give the same negative
+/// answer; below `*` itself, where only the wildcard changes; for each question, where the caller can replace the SOA; and the SOA itself,
+/// where what is granted changes nothing. What the prerequisites of an update ask for does not count.
+///
+/// For each name at or above a record, the target of an alias or the name of a rule, it takes a pass over the rules for each type of
+/// record, and for each type of question an answer, some decisions and look-ups, and a look-up for each label. The only error is out of
+/// memory.
 pub fn reached_answers(
     alloc: Global,
     index: &ZoneIndex,
@@ -165,6 +174,12 @@ pub fn reached_answers(
 ) -> Result<Vec<ReachedAnswers>, AllocError>
     // Whatever the caller makes of the zone, each question that is then answered otherwise is in a row.
     ensures sound { IfOk result (λ rows. (after : ZoneOf) → CanMake policy.now caller.now index.now after → (name : List (List ℕ)) (asked : QueryType) → Differs index.now.origin (listing index.now.records) (listing after.records) name asked → IsListed policy.now (listing index.now.records) rows.items name asked) }
+    // No group has two rows.
+    ensures order { IfOk result (λ rows. IsStrictlySortedBy group_cmp (map (λ row. row.names) rows.items)) }
+    // Each group is that of a known name, or of those below it that are not known.
+    ensures groups { IfOk result (λ rows. (row : ReachedAnswers) → Contains rows.items row → IsGroup index.now.origin policy.now (listing index.now.records) row.names) }
+    // Each row has types, in their order.
+    ensures types { IfOk result (λ rows. (row : ReachedAnswers) → Contains rows.items row → AreTypes row.types.items) }
 {
     // the proof needs that it is a zone
     let _ = index.zone().records();

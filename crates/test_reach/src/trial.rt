@@ -40,7 +40,12 @@ fn is_named(zone: &Zone, policy: &Policy, name: &Name) -> bool {
 }
 
 /// The nearest name above one that is not named itself.
-fn nearest(rt: &HostRuntime, zone: &Zone, policy: &Policy, name: &Name) -> io::Result<Option<Name>> {
+fn nearest(
+    rt: &HostRuntime,
+    zone: &Zone,
+    policy: &Policy,
+    name: &Name,
+) -> io::Result<Option<Name>> {
     let mut above = name.try_copy(rt.alloc())?;
     for _ in 0..128 {
         if is_named(zone, policy, &above) {
@@ -54,7 +59,13 @@ fn nearest(rt: &HostRuntime, zone: &Zone, policy: &Policy, name: &Name) -> io::R
     Ok(None)
 }
 
-fn has(rt: &HostRuntime, zone: &Zone, policy: &Policy, names: &ReachedNames, name: &Name) -> io::Result<bool> {
+fn has(
+    rt: &HostRuntime,
+    zone: &Zone,
+    policy: &Policy,
+    names: &ReachedNames,
+    name: &Name,
+) -> io::Result<bool> {
     match names {
         ReachedNames::At(own) => Ok(own == name),
         ReachedNames::Others(top) => {
@@ -69,7 +80,14 @@ fn has(rt: &HostRuntime, zone: &Zone, policy: &Policy, names: &ReachedNames, nam
     }
 }
 
-fn is_listed(rt: &HostRuntime, zone: &Zone, policy: &Policy, rows: &[ReachedAnswers], name: &Name, asked: QueryType) -> io::Result<bool> {
+fn is_listed(
+    rt: &HostRuntime,
+    zone: &Zone,
+    policy: &Policy,
+    rows: &[ReachedAnswers],
+    name: &Name,
+    asked: QueryType,
+) -> io::Result<bool> {
     for row in rows {
         if row.types.contains(&asked) && has(rt, zone, policy, &row.names, name)? {
             return Ok(true);
@@ -79,7 +97,13 @@ fn is_listed(rt: &HostRuntime, zone: &Zone, policy: &Policy, rows: &[ReachedAnsw
 }
 
 /// The questions about some names, with what rows say of them.
-pub fn questions(rt: &HostRuntime, zone: &Zone, policy: &Policy, rows: &[ReachedAnswers], names: &[Name]) -> io::Result<Vec<Question>> {
+pub fn questions(
+    rt: &HostRuntime,
+    zone: &Zone,
+    policy: &Policy,
+    rows: &[ReachedAnswers],
+    names: &[Name],
+) -> io::Result<Vec<Question>> {
     let mut all = Vec::new(rt.alloc());
     for name in names {
         for asked in &QueryType::ALL {
@@ -123,7 +147,13 @@ fn encloser(rt: &HostRuntime, old: &Zone, new: &Zone, name: &Name) -> io::Result
     Ok(None)
 }
 
-fn changed_has(rt: &HostRuntime, old: &Zone, new: &Zone, group: &QuestionGroup, name: &Name) -> io::Result<bool> {
+fn changed_has(
+    rt: &HostRuntime,
+    old: &Zone,
+    new: &Zone,
+    group: &QuestionGroup,
+    name: &Name,
+) -> io::Result<bool> {
     match group {
         QuestionGroup::At(own) => Ok(own == name),
         QuestionGroup::Others(top) => {
@@ -138,8 +168,17 @@ fn changed_has(rt: &HostRuntime, old: &Zone, new: &Zone, group: &QuestionGroup, 
     }
 }
 
-fn mark(rt: &HostRuntime, old: &Zone, new: &Zone, row: &ChangedAnswers, question: &mut Question) -> io::Result<()> {
-    if !question.differs && row.types.contains(&question.asked) && changed_has(rt, old, new, &row.group, &question.name)? {
+fn mark(
+    rt: &HostRuntime,
+    old: &Zone,
+    new: &Zone,
+    row: &ChangedAnswers,
+    question: &mut Question,
+) -> io::Result<()> {
+    if !question.differs
+        && row.types.contains(&question.asked)
+        && changed_has(rt, old, new, &row.group, &question.name)?
+    {
         question.differs = true;
     }
     Ok(())
