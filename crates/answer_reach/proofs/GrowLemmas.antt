@@ -28,9 +28,10 @@ use Rattle.zone_core.proofs.SetLemmas.{name_is, name_self, by_cases}
 use Rattle.zone_core.proofs.BehindLemmas.{filter_push, filter_skip}
 use Rattle.zone_answers.specs.Answers.{Name, asterisk}
 use Rattle.zone_answers.proofs.CutLemmas.{sorted_names}
+use Rattle.zone_answers.specs.AnswerTests.{is_there}
 use Rattle.zone_answers.specs.declared.query_type.QueryType.{QueryType}
 use Rattle.answer_reach.specs.declared.reached.ReachedNames.{ReachedNames}
-use Rattle.answer_reach.specs.ReachTests.{has_name, within_any, is_long, if_types, AreSorted, IsMap, comes_under, stays_cut, opens}
+use Rattle.answer_reach.specs.ReachTests.{has_name, within_any, is_long, alias_by, alias_under, if_types, AreSorted, IsMap, comes_under, stays_cut, opens}
 
 -- ---- lists that grow
 
@@ -131,3 +132,8 @@ type_same a b = same_from_decides (type_number a == type_number b) (rank_of a ==
 pub within_has : (names : List Name) (name : Name) → has_name names name ≡ true → within_any names name ≡ true
 within_has names [] e = e
 within_has names (label ∷ labels) e = ap (λ b. b || within_any names labels) e
+
+-- the alias below a name that exists
+pub alias_there : (rs : List Record) (above : Name) → is_there rs above ≡ true → alias_by rs above ≡ alias_under rs above
+alias_there rs [] e = sym (ap (λ b. cond b (alias_by rs []) None) e)
+alias_there rs (label ∷ labels) e = sym (ap (λ b. cond b (alias_by rs (label ∷ labels)) (alias_under rs labels)) e)

@@ -1,7 +1,0 @@
-use Rattle.std.proofs.Common.{◌≡◌, map, take}
-use Rattle.zone_core.specs.Sets.{listing}
-use Rattle.answer_reach.specs.ReachTests.{row_of, rows_for}
-use Rattle.answer_reach.proofs.reached.Asker.rows_for.Given as goal
-
-abbrev pub invariant-loop-name : goal.invariant-loop-name
-invariant-loop-name l = map row_of l.rows.items ≡ rows_for l.self.policy.now l.self.caller.now l.self.index.now.origin (listing l.self.index.now.records) l.lists (take l.name-index l.names)
