@@ -163,12 +163,18 @@ impl<'a> Asker<'a> {
         matters(asked, record_type) && self.may_change(name, record_type)
     }
 
+    /// Whether the records of some type make a difference to a question, and can change.
+    fn some_type_may_change(&self, name: &Name, asked: QueryType) -> bool
+        ensures { result ≡ list_any (λ t. matters asked t && may_change self.now.policy.now self.now.caller.now self.now.index.now.origin (listing self.now.index.now.records) name.now t) kept_types }
+    {
+        RecordType::ALL.iter().any(|record_type| self.type_may_change(name, asked, *record_type))
+    }
+
     /// Whether the records of a name that make a difference to a question can change.
     fn records_may_change(&self, lists: &ReachMap, name: &Name, asked: QueryType) -> bool
         ensures { result ≡ records_may_change self.now.policy.now self.now.caller.now self.now.index.now.origin (listing self.now.index.now.records) lists.now name.now asked }
     {
-        RecordType::ALL.iter().any(|record_type| self.type_may_change(name, asked, *record_type))
-            || self.serial_matters(lists, name, asked)
+        self.some_type_may_change(name, asked) || self.serial_matters(lists, name, asked)
     }
 
     /// Whether a name itself may answer, and may not or with other records.
