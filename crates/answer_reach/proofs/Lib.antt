@@ -7,3 +7,4 @@ pub mod GrowLemmas
 pub mod ComputedLemmas
 pub mod ReachedLemmas
 pub mod RowOrderLemmas
+pub mod WildcardLemmas
