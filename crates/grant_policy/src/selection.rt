@@ -39,6 +39,16 @@ impl Types {
         }
     }
 
+    /// The types of the list, unless every one is meant.
+    pub fn listed(&self) -> Option<&[RecordType]>
+        ensures { option_map (λ types. types.now) result ≡ self.now }
+    {
+        match &self.listed {
+            Some(listed) => Some(listed.as_slice()),
+            None => None,
+        }
+    }
+
     /// Whether a type is one of them.
     pub fn include(&self, record_type: RecordType) -> bool
         ensures test { IsTrue result ↔ Has self.now record_type }
@@ -79,6 +89,16 @@ impl Actions {
     {
         Actions {
             listed: Some(listed),
+        }
+    }
+
+    /// The actions of the list, unless every one is meant.
+    pub fn listed(&self) -> Option<&[Action]>
+        ensures { option_map (λ actions. actions.now) result ≡ self.now }
+    {
+        match &self.listed {
+            Some(listed) => Some(listed.as_slice()),
+            None => None,
         }
     }
 
