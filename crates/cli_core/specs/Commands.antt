@@ -48,6 +48,9 @@ argument_row argument.Not = (codes "not", Optional)
 argument_row argument.Server = (codes "server", Optional)
 argument_row argument.Most = (codes "most", Number)
 argument_row argument.Warn = (codes "warn", Flag)
+argument_row argument.Source = (codes "source", Place)
+argument_row argument.SourceFile = (codes "file", OptionalPlace)
+argument_row argument.Slice = (codes "slice", Optional)
 argument_row argument.Json = (codes "json", Flag)
 argument_row argument.Guard = (codes "guard", Flag)
 argument_row argument.GuardSets = (codes "guard-sets", Flag)
@@ -84,6 +87,7 @@ command_row command.Log = (codes "log", argument.Store ∷ argument.Origin ∷ a
 command_row command.Blame = (codes "blame", argument.Store ∷ argument.Origin ∷ argument.Within ∷ [])
 command_row command.Undo = (codes "undo", argument.Store ∷ argument.Origin ∷ argument.Changed ∷ argument.To ∷ [])
 command_row command.Migrate = (codes "migrate", argument.Store ∷ [])
+command_row command.Remove = (codes "remove", argument.Store ∷ argument.Origin ∷ [])
 command_row command.Rights =
     (codes "rights", argument.Policy ∷ argument.Caller ∷ argument.Name ∷ argument.Type ∷ argument.Action ∷ [])
 command_row command.Plan = (codes "plan", argument.Policy ∷ argument.Caller ∷ argument.Answers ∷ [])
@@ -91,6 +95,7 @@ command_row command.Serve =
     (codes "serve", argument.Store ∷ argument.Policy ∷ argument.Listen ∷ argument.Connections ∷ argument.Patience ∷ argument.Longest ∷ argument.Memory ∷ [])
 command_row command.Check =
     (codes "check", argument.Subject ∷ argument.CheckedName ∷ argument.CheckedPolicy ∷ argument.Against ∷ argument.Zones ∷ argument.Reader ∷ argument.Isolated ∷ argument.CheckedOrigin ∷ argument.Only ∷ argument.Not ∷ argument.Server ∷ argument.Most ∷ argument.Warn ∷ [])
+command_row command.Policy = (codes "policy", argument.Source ∷ argument.SourceFile ∷ argument.Slice ∷ [])
 command_row command.Answer = (codes "answer", argument.Origin ∷ argument.File ∷ argument.AskedName ∷ argument.AskedType ∷ argument.Json ∷ [])
 command_row command.Reverse = (codes "reverse", argument.Origin ∷ argument.File ∷ [])
 command_row command.Explain = (codes "explain", argument.Number ∷ argument.Json ∷ [])
@@ -104,7 +109,8 @@ arguments_of c = (command_row c).1
 abbrev pub all_commands : List Command
 all_commands =
     command.Apply ∷ command.Canon ∷ command.Diff ∷ command.Request ∷ command.Import ∷ command.Export ∷ command.Zones ∷ command.Log ∷ command.Blame
-    ∷ command.Undo ∷ command.Migrate ∷ command.Rights ∷ command.Plan ∷ command.Serve ∷ command.Check ∷ command.Answer ∷ command.Reverse ∷ command.Explain ∷ []
+    ∷ command.Undo ∷ command.Migrate ∷ command.Remove ∷ command.Rights ∷ command.Plan ∷ command.Serve ∷ command.Check ∷ command.Policy ∷ command.Answer
+    ∷ command.Reverse ∷ command.Explain ∷ []
 
 -- the command that a word names
 abbrev pub command_of : Text → Option Command

@@ -7,6 +7,9 @@ use Rattle.cli_core.specs.declared.commands.Command.{Command}
 use Rattle.cli_core.specs.declared.commands.Command.TheVariants as command
 use Rattle.cli_core.specs.declared.commands.check.Check.{Check}
 use Rattle.cli_core.specs.declared.commands.check.Check.TheVariants as check
+use Rattle.cli_core.specs.declared.commands.policy.PolicySource.{PolicySource}
+use Rattle.cli_core.specs.declared.commands.policy.PolicySource.TheVariants.{Groups, Rules}
+use Rattle.cli_core.specs.declared.commands.policy.PolicyText.{PolicyText}
 use Rattle.cli_core.specs.declared.job.Existing.{Existing}
 use Rattle.cli_core.specs.declared.job.Existing.TheVariants.{Kept, Replaced}
 use Rattle.cli_core.specs.declared.job.TextForm.{TextForm}
@@ -120,7 +123,24 @@ asks_check (check.Rights policy name) =
     (command.Check, subject (codes "rights") ∷ (argument.CheckedName, text (option_map (λ n. n.now) name)) ∷ (argument.CheckedPolicy, given policy.now) ∷ [])
 asks_check (check.Expect policy file) =
     (command.Check, subject (codes "expect") ∷ (argument.CheckedName, text (option_map (λ f. f.now) file)) ∷ (argument.CheckedPolicy, given policy.now) ∷ [])
+asks_check (check.Reach policy caller origin file) = (
+  command.Check,
+  subject (codes "reach") ∷ (argument.CheckedName, text (option_map (λ f. f.now) file)) ∷ (argument.CheckedPolicy, given policy.now)
+      ∷ (argument.Isolated, given caller.now) ∷ (argument.CheckedOrigin, given origin.now) ∷ [],
+)
 asks_check (check.Zone origin rules) = (command.Check, subject (codes "zone") ∷ (argument.CheckedOrigin, given origin.now) ∷ choice_values rules.choice (further_values rules))
+
+-- the word of that from which a policy is printed
+abbrev pub source_word : PolicySource → Text
+source_word Groups = codes "build"
+source_word Rules = codes "print"
+
+abbrev pub asks_policy : PolicyText → JobOf
+asks_policy w = (
+  command.Policy,
+  (argument.Source, given (source_word w.source)) ∷ (argument.SourceFile, text (option_map (λ f. f.now) w.file))
+      ∷ (argument.Slice, text (option_map (λ z. z.now) w.zones)) ∷ [],
+)
 
 abbrev pub asks_text : TextJob → JobOf
 asks_text text_job.Apply = (command.Apply, [])
@@ -139,6 +159,7 @@ asks_text (text_job.Rights w) = (
 asks_text (text_job.Plan w) =
     (command.Plan, (argument.Policy, given w.policy.now) ∷ (argument.Caller, given w.caller.now) ∷ (argument.Answers, flag (tells_answers w.form)) ∷ [])
 asks_text (text_job.Check w) = asks_check w
+asks_text (text_job.Policy w) = asks_policy w
 asks_text (text_job.Answer w) = (
   command.Answer,
   (argument.Origin, given w.origin.now) ∷ (argument.File, given w.file.now) ∷ (argument.AskedName, given w.name.now)
@@ -172,6 +193,7 @@ asks_store (store_job.Log w) = (
 asks_store (store_job.Blame w) = (command.Blame, stored w.zone ((argument.Within, text (option_map (λ n. n.now) w.name)) ∷ []))
 asks_store (store_job.Undo w) = (command.Undo, stored w.zone ((argument.Changed, number w.first) ∷ (argument.To, number w.last) ∷ []))
 asks_store (store_job.Migrate w) = (command.Migrate, (argument.Store, given w.store.now) ∷ [])
+asks_store (store_job.Remove w) = (command.Remove, stored w.zone [])
 asks_store (store_job.Serve w) = (
   command.Serve,
   (argument.Store, given w.store.now) ∷ (argument.Policy, given w.policy.now) ∷ (argument.Listen, given w.listen.now)

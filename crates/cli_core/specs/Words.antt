@@ -1,10 +1,11 @@
 -- What a command line asks for, by the words after the program's name.
 use Rattle.std.specs.Prelude.{◌&&◌, ◌||◌, Bool, true, false, not, List, [], ◌∷◌, Option, Some, None, is_some, option_map, option_and_then, codes, find, unwrap_or, if◌then◌else◌}
 use Rattle.std.specs.Str.{bytes_eq}
+use Rattle.std.specs.List.{list_any}
 use Rattle.clap.specs.Words.{Row, Text, first_of, subcommand_of}
 use Rattle.cli_core.specs.Commands.{argument_name, arguments_of, command_of, office}
 use Rattle.cli_core.specs.Jobs.{JobOf, subject}
-use Rattle.cli_core.specs.Values.{Given, Value, text, number, flag, values_in}
+use Rattle.cli_core.specs.Values.{Given, Value, text, number, flag, given, values_in}
 use Rattle.cli_core.specs.declared.argument.Argument.{Argument}
 use Rattle.cli_core.specs.declared.argument.Argument.TheVariants as argument
 use Rattle.cli_core.specs.declared.commands.Command.{Command}
@@ -17,6 +18,7 @@ subjects =
     ∷ (codes "isolation", argument.CheckedPolicy ∷ argument.Isolated ∷ [])
     ∷ (codes "rights", argument.CheckedName ∷ argument.CheckedPolicy ∷ [])
     ∷ (codes "expect", argument.CheckedName ∷ argument.CheckedPolicy ∷ [])
+    ∷ (codes "reach", argument.CheckedName ∷ argument.CheckedPolicy ∷ argument.Isolated ∷ argument.CheckedOrigin ∷ [])
     ∷ (codes "zone", argument.CheckedOrigin ∷ argument.Only ∷ argument.Not ∷ argument.Server ∷ argument.Most ∷ argument.Warn ∷ []) ∷ []
 
 -- the arguments that a job of a command reads: those of its row, and of `check` those of its subject
@@ -43,11 +45,11 @@ abbrev pub is_input : Value → Bool
 is_input (text (Some path)) = bytes_eq path (codes "-")
 is_input _ = false
 
--- whether values go together: one of two files at most is standard input, and a diff prints prerequisites of one scope, or
--- answers; an update has an identifier,
--- or what stands before those of its parts, and only one of them; an import has an origin, or a list of zones, and only one of them; standard input is not both a zone and the questions to it, which have
--- their types; a zone is not checked both by one rule only and by all but one; and a policy is not checked both against another and beside
--- zones, and a reader is given with zones only
+-- whether values go together: one of two files at most is standard input, and a diff prints prerequisites of one scope, or answers; an
+-- update has an identifier, or what stands before those of its parts, and only one of them; an import has an origin, or a list of zones,
+-- and only one of them; standard input is not both a zone and the questions to it, which have their types; a zone is not checked both by
+-- one rule only and by all but one; a policy is not checked both against another and beside zones, and a reader is given with zones only;
+-- and a policy is printed from groups or from rules
 abbrev pub go_together : Command → List Given → Bool
 go_together command.Diff gs =
     not (is_input (value_of argument.Old gs) && is_input (value_of argument.New gs))
@@ -63,6 +65,7 @@ go_together command.Import gs =
 go_together command.Check gs =
     not (is_given (value_of argument.Only gs) && is_given (value_of argument.Not gs))
     && (if is_given (value_of argument.Zones gs) then not (is_given (value_of argument.Against gs)) else not (is_given (value_of argument.Reader gs)))
+go_together command.Policy gs = list_any (bytes_eq (unwrap_or (text_of (value_of argument.Source gs)) [])) (codes "build" ∷ codes "print" ∷ [])
 go_together c gs = true
 
 abbrev pub job_with : Command → List Given → Option JobOf
@@ -72,6 +75,11 @@ job_with c gs = if go_together c gs then Some (c, gs) else None
 abbrev pub check_by : Text → List Row → Option JobOf
 check_by t rows =
     option_and_then (λ s. option_and_then (job_with command.Check) (option_map (λ gs. subject t ∷ gs) (values_in s.1 rows))) (find (λ s. bytes_eq s.0 t) subjects)
+
+-- the job of `policy` with the word of a source
+abbrev pub policy_by : Text → List Row → Option JobOf
+policy_by t rows =
+    option_and_then (job_with command.Policy) (option_map (λ gs. (argument.Source, given t) ∷ gs) (values_in (argument.SourceFile ∷ argument.Slice ∷ []) rows))
 
 -- the job of a command, by what was matched
 abbrev pub job_by : Command → List Row → Option JobOf

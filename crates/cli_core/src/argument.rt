@@ -43,6 +43,9 @@ pub enum Argument {
     Server,
     Most,
     Warn,
+    Source,
+    SourceFile,
+    Slice,
     Json,
     Guard,
     GuardSets,
@@ -198,7 +201,7 @@ impl Argument {
             Argument::Subject => &Row {
                 name: "subject",
                 form: Form::Place,
-                help: "What to check: policy, expect, isolation, rights or zone",
+                help: "What to check: policy, expect, isolation, reach, rights or zone",
             },
             Argument::CheckedPolicy => &Row {
                 name: "policy",
@@ -223,17 +226,17 @@ impl Argument {
             Argument::CheckedOrigin => &Row {
                 name: "origin",
                 form: Form::Asked,
-                help: "The zone's origin; needed by zone",
+                help: "The zone's origin; needed by zone and reach",
             },
             Argument::CheckedName => &Row {
                 name: "name",
                 form: Form::OptionalPlace,
-                help: "Of rights the name, by scopes if left out; of expect the file, or - for standard input",
+                help: "Of rights the name, by scopes if left out; of expect and reach the file, or - for standard input",
             },
             Argument::Isolated => &Row {
                 name: "caller",
                 form: Form::Asked,
-                help: "Whose isolation to check; needed by isolation",
+                help: "Whose isolation or reach; needed by isolation and reach",
             },
             Argument::Only => &Row {
                 name: "only",
@@ -259,6 +262,21 @@ impl Argument {
                 name: "warn",
                 form: Form::Flag,
                 help: "Also addresses that several names have",
+            },
+            Argument::Source => &Row {
+                name: "source",
+                form: Form::Place,
+                help: "build, from groups and templates, or print, from a policy",
+            },
+            Argument::SourceFile => &Row {
+                name: "file",
+                form: Form::OptionalPlace,
+                help: "The file of groups or the policy, standard input if left out",
+            },
+            Argument::Slice => &Row {
+                name: "slice",
+                form: Form::Optional,
+                help: "Only the rules that can matter in zones: their origins, with spaces between them",
             },
             Argument::Json => &Row {
                 name: "json",

@@ -18,6 +18,8 @@ mod import;
 mod log;
 mod migrate;
 mod plan;
+mod policy;
+mod remove;
 mod request;
 mod reverse;
 mod rights;
@@ -40,6 +42,8 @@ pub use import::{Import, ImportList};
 pub use log::Log;
 pub use migrate::Migrate;
 pub use plan::Plan;
+pub use policy::{PolicySource, PolicyText};
+pub use remove::Remove;
 pub use request::Request;
 pub use reverse::Reverse;
 pub use rights::Rights;
@@ -61,10 +65,12 @@ pub enum Command {
     Blame,
     Undo,
     Migrate,
+    Remove,
     Rights,
     Plan,
     Serve,
     Check,
+    Policy,
     Answer,
     Reverse,
     Explain,
@@ -96,7 +102,7 @@ impl Command {
     ghost use Rattle.cli_core.specs.Help.{command_about, command_example};
 
     /// The commands, in the order of the help.
-    pub const ALL: [Command; 18] = [
+    pub const ALL: [Command; 20] = [
         Command::Apply,
         Command::Canon,
         Command::Diff,
@@ -108,10 +114,12 @@ impl Command {
         Command::Blame,
         Command::Undo,
         Command::Migrate,
+        Command::Remove,
         Command::Rights,
         Command::Plan,
         Command::Serve,
         Command::Check,
+        Command::Policy,
         Command::Answer,
         Command::Reverse,
         Command::Explain,
@@ -136,10 +144,12 @@ impl Command {
             Command::Blame => &blame::ROW,
             Command::Undo => &undo::ROW,
             Command::Migrate => &migrate::ROW,
+            Command::Remove => &remove::ROW,
             Command::Rights => &rights::ROW,
             Command::Plan => &plan::ROW,
             Command::Serve => &serve::ROW,
             Command::Check => &check::ROW,
+            Command::Policy => &policy::ROW,
             Command::Answer => &answer::ROW,
             Command::Reverse => &reverse::ROW,
             Command::Explain => &explain::ROW,
@@ -200,10 +210,12 @@ impl Command {
             Command::Blame => Blame::read(matches),
             Command::Undo => Undo::read(matches),
             Command::Migrate => Migrate::read(matches),
+            Command::Remove => Remove::read(matches),
             Command::Rights => Rights::read(matches),
             Command::Plan => Plan::read(matches),
             Command::Serve => Service::read(matches),
             Command::Check => Check::read(matches),
+            Command::Policy => PolicyText::read(matches),
             Command::Answer => Answer::read(matches),
             Command::Reverse => Reverse::read(matches),
             Command::Explain => Explain::read(matches),

@@ -2,7 +2,7 @@
 
 use crate::commands::{
     Answer, Blame, Canon, Check, Diff, Explain, Export, Import, ImportList, Log, Migrate, Plan,
-    Request, Reverse, Rights, Service, Undo, Zones,
+    PolicyText, Remove, Request, Reverse, Rights, Service, Undo, Zones,
 };
 
 /// What the program is to do.
@@ -29,8 +29,10 @@ pub enum TextJob<'a> {
     Rights(Rights<'a>),
     /// To say what the office would answer to an update of a zone, both read from standard input.
     Plan(Plan<'a>),
-    /// To check a policy, the isolation of a caller or a zone, or to print who may do what.
+    /// To check a policy, the isolation of a caller or a zone, or to print who may do what, or whose answers a caller can change.
     Check(Check<'a>),
+    /// To print a policy.
+    Policy(PolicyText<'a>),
     /// To print what a server answers from a zone.
     Answer(Answer<'a>),
     /// To print the PTR records that the addresses of zones call for.
@@ -58,6 +60,8 @@ pub enum StoreJob<'a> {
     Undo(Undo<'a>),
     /// To take a store from version 1 of the tables to version 2.
     Migrate(Migrate<'a>),
+    /// To take a zone out of a store.
+    Remove(Remove<'a>),
     /// To answer callers over HTTP.
     Serve(Service<'a>),
 }
@@ -169,7 +173,7 @@ pub struct ZoneRules<'a> {
     pub advice: Advice,
 }
 
-/// A zone of a store, as the words of `import`, `export`, `log`, `blame` and `undo` name it.
+/// A zone of a store, as the words of `import`, `export`, `log`, `blame`, `undo` and `remove` name it.
 #[derive(Clone, Copy)]
 pub struct StoredZone<'a> {
     /// The path of the store.

@@ -18,7 +18,7 @@ mod words;
 
 pub use commands::{
     Answer, Blame, Canon, Check, Diff, Explain, Export, Import, ImportList, Log, Migrate, Plan,
-    Request, Reverse, Rights, Service, Undo, Zones,
+    PolicySource, PolicyText, Remove, Request, Reverse, Rights, Service, Undo, Zones,
 };
 pub use device::{ended, write_answer, write_refusal, write_text};
 pub use input::{Input, read_input};

@@ -65,6 +65,8 @@ fn mistake_in(matches: &ArgMatches<'_>) -> &'static str {
         Some(("check", _)) =>
             "a policy is checked --against another or beside --zones, a --reader only beside these; a zone by --only one rule or by all but one --not",
         Some(("import", _)) => "one of --origin and --list is needed, and only one of them",
+        Some(("policy", _)) =>
+            "policy build makes a policy from groups and templates, and policy print prints a policy",
         Some(("request", _)) => "one of --id and --split is needed, and only one of them",
         _ => "the words name no job: see the example of zoneoffice COMMAND --help",
     }
@@ -125,12 +127,12 @@ fn reported(alloc: Global, words: &[&str], error: Error) -> WordsFault
 /// `diff --origin NAME [--answers | --guard | --guard-sets] OLD NEW`, where only one of the two can be `-`; `request (--id ID | --split ID)`;
 /// `import --store PATH (--origin NAME | --list LIST) [--replace]`; `export --store PATH --origin NAME [--at N] [--relative]`; `zones --store PATH`;
 /// `log --store PATH --origin NAME [--from N] [--name NAME] [--caller CALLER]`; `blame --store PATH --origin NAME [--name NAME]`;
-/// `undo --store PATH --origin NAME [--change N] [--to N]`; `migrate --store PATH`;
+/// `undo --store PATH --origin NAME [--change N] [--to N]`; `migrate --store PATH`; `remove --store PATH --origin NAME`;
 /// `rights --policy PATH --caller CALLER NAME TYPE ACTION`; `plan --policy PATH --caller CALLER [--answers]`;
 /// `serve --store PATH --policy PATH --listen ADDRESS:PORT [--connections N] [--patience SECONDS] [--longest SECONDS] [--memory MB]`;
 /// `check policy --policy PATH [--against PATH | --zones PATH [--reader CALLER]]`; `check expect [FILE] --policy PATH`; `check isolation --policy PATH --caller CALLER`;
-/// `check rights [NAME] --policy PATH`; `check zone --origin NAME [--only RULE | --not RULE] [--server SERVER] [--most N] [--warn]`;
-/// `answer --origin NAME FILE NAME [TYPE] [--json]`, where only one of file and name can be `-`, and a type is of a name;
+/// `check reach [FILE] --policy PATH --caller CALLER --origin NAME`; `check rights [NAME] --policy PATH`; `check zone --origin NAME [--only RULE | --not RULE] [--server SERVER] [--most N] [--warn]`;
+/// `policy (build | print) [FILE] [--slice ORIGINS]`; `answer --origin NAME FILE NAME [TYPE] [--json]`, where only one of file and name can be `-`, and a type is of a name;
 /// `reverse --origin NAME FILE`; and `explain [NUMBER] [--json]`. The words after a command may come in any order.
 /// `Help` comes where they ask for help or the version, and `Misused` where there is a mistake in them.
 pub fn read_words<'a>(alloc: Global, words: &'a [&'a str]) -> Result<Job<'a>, WordsFault>

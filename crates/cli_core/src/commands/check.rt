@@ -48,6 +48,17 @@ pub enum Check<'a> {
         /// At which name, and by scopes where none is given.
         name: Option<&'a str>,
     },
+    /// To print which answers of a zone a caller of a policy can change.
+    Reach {
+        /// The path of the policy.
+        policy: &'a str,
+        /// Who changes them.
+        caller: &'a str,
+        /// The name of the zone's origin.
+        origin: &'a str,
+        /// The path of the zone, and standard input where none is given.
+        file: Option<&'a str>,
+    },
     /// To find what is expected of a policy and is not so.
     Expect {
         /// The path of the policy.
@@ -104,6 +115,7 @@ fn check_in<'a>(subject: &str, matches: &ArgMatches<'a>) -> Option<Check<'a>>
         "isolation" => isolation_in(matches),
         "rights" => rights_in(matches),
         "expect" => expect_in(matches),
+        "reach" => reach_in(matches),
         "zone" => zone_in(matches),
         _ => None,
     }
@@ -153,6 +165,21 @@ fn expect_in<'a>(matches: &ArgMatches<'a>) -> Option<Check<'a>>
     let policy = text_at(matches, Argument::CheckedPolicy)?;
     let file = text_at(matches, Argument::CheckedName);
     Some(Check::Expect { policy, file })
+}
+
+/// The job of `check reach`.
+fn reach_in<'a>(matches: &ArgMatches<'a>) -> Option<Check<'a>>
+    ensures { option_map asks_check result ≡ check_by (codes "reach") (rows_of (found_of matches.now)) }
+{
+    let file = text_at(matches, Argument::CheckedName);
+    let (policy, caller) = texts_at(matches, Argument::CheckedPolicy, Argument::Isolated)?;
+    let origin = text_at(matches, Argument::CheckedOrigin)?;
+    Some(Check::Reach {
+        policy,
+        caller,
+        origin,
+        file,
+    })
 }
 
 /// Whether shared addresses are asked for.
