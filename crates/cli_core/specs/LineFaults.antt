@@ -10,10 +10,12 @@ use Rattle.update_lines.specs.declared.items_fault.ItemsFault.{ItemsFault}
 use Rattle.update_lines.specs.declared.items_fault.ItemsFault.TheVariants as items
 use Rattle.grant_policy.specs.declared.policy_fault.PolicyFault.{PolicyFault}
 use Rattle.grant_policy.specs.declared.policy_fault.PolicyFault.TheVariants as policies
+use Rattle.policy_build.specs.declared.build_fault.BuildFault.{BuildFault}
+use Rattle.policy_build.specs.declared.build_fault.BuildFault.TheVariants as builds
 use Rattle.store_faults.specs.declared.store_fault.StoreFault.{StoreFault}
 use Rattle.store_faults.specs.declared.store_fault.StoreFault.TheVariants as stores
 use Rattle.cli_core.specs.declared.refusal.Refusal.{Refusal}
-use Rattle.cli_core.specs.declared.refusal.Refusal.TheVariants.{Name, TooLarge, Master, Zone, Policy, Items, Store}
+use Rattle.cli_core.specs.declared.refusal.Refusal.TheVariants.{Name, TooLarge, Master, Zone, Policy, Groups, Items, Store}
 use Rattle.cli_core.specs.declared.line_fault.LineFault.{LineFault}
 use Rattle.cli_core.specs.declared.line_fault.LineFault.TheVariants.{Refused, ReadFailed, NoMemory}
 use Rattle.cli_core.specs.Device.{IsAll}
@@ -33,7 +35,7 @@ or_refused None refusal = Err refusal
 abbrev pub limited : List ℕ → Result (List ℕ) Refusal
 limited input = if nat_lt 4194304 (length input) then Err TooLarge else Ok input
 
--- what a reader of names, master files, zones, items or policies makes
+-- what a reader of names, master files, zones, items, policies or files of groups makes
 abbrev pub of_names : {A : Type 0} → Result A NameFault → Result A Refusal
 of_names (Ok x) = Ok x
 of_names (Err fault) = Err (Name fault)
@@ -58,6 +60,10 @@ abbrev pub of_policies : {A : Type 0} → Result A PolicyFault → Result A Refu
 of_policies (Ok x) = Ok x
 of_policies (Err fault) = Err (Policy fault)
 
+abbrev pub of_builds : {A : Type 0} → Result A BuildFault → Result A Refusal
+of_builds (Ok x) = Ok x
+of_builds (Err fault) = Err (Groups fault)
+
 -- ---- the fault of a step where its callee has this one
 
 abbrev pub of_name : NameFault → LineFault
@@ -79,6 +85,10 @@ of_item fault = Refused (Items fault)
 abbrev pub of_policy : PolicyFault → LineFault
 of_policy policies.NoMemory = NoMemory
 of_policy fault = Refused (Policy fault)
+
+abbrev pub of_groups : BuildFault → LineFault
+of_groups builds.NoMemory = NoMemory
+of_groups fault = Refused (Groups fault)
 
 abbrev pub of_store : StoreFault → LineFault
 of_store stores.NoMemory = NoMemory

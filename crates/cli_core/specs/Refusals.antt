@@ -15,10 +15,13 @@ use Rattle.store_faults.specs.StoreFaults.{store_fault_number}
 use Rattle.grant_policy.specs.declared.policy_fault.PolicyFault.{PolicyFault}
 use Rattle.grant_policy.specs.declared.policy_fault.PolicyFault.TheVariants as of_policy
 use Rattle.grant_policy.specs.Faults.{fault_number as policy_number}
+use Rattle.policy_build.specs.declared.build_fault.BuildFault.{BuildFault}
+use Rattle.policy_build.specs.declared.build_fault.BuildFault.TheVariants as of_groups
+use Rattle.policy_build.specs.Faults.{fault_number as groups_number}
 use Rattle.cli_core.specs.declared.word_fault.WordFault.{WordFault}
 use Rattle.cli_core.specs.declared.word_fault.WordFault.TheVariants as of_word
 use Rattle.cli_core.specs.declared.refusal.Refusal.{Refusal}
-use Rattle.cli_core.specs.declared.refusal.Refusal.TheVariants.{Name, TypeNotKept, NoCaller, NoAction, NoRule, NoServer, TooLarge, NoDivider, Master, Zone, Policy, Items, Unmet, Line, UnknownNumber, NoIdentifier, BodyTooLarge, NoChange, Store}
+use Rattle.cli_core.specs.declared.refusal.Refusal.TheVariants.{Name, TypeNotKept, NoCaller, NoAction, NoRule, NoServer, TooLarge, NoDivider, Master, Zone, Policy, Groups, Items, Unmet, Line, UnknownNumber, NoIdentifier, BodyTooLarge, NoChange, Store}
 
 -- ---- numbers: that of a refusal, and after it that of the refusal within it
 
@@ -33,6 +36,10 @@ master_numbers fault = master_number fault ∷ []
 abbrev pub policy_numbers : PolicyFault → List ℕ
 policy_numbers (of_policy.Name rule fault) = 58 ∷ name_number fault ∷ []
 policy_numbers fault = policy_number fault ∷ []
+
+abbrev pub group_numbers : BuildFault → List ℕ
+group_numbers (of_groups.Name place fault) = 58 ∷ name_number fault ∷ []
+group_numbers fault = groups_number fault ∷ []
 
 abbrev pub word_number : WordFault → ℕ
 word_number (of_word.Name fault) = name_number fault
@@ -60,6 +67,7 @@ refusal_number NoChange = 77
 refusal_number (Master fault) = master_number fault
 refusal_number (Zone fault) = zone_fault_number fault
 refusal_number (Policy fault) = policy_number fault
+refusal_number (Groups fault) = groups_number fault
 refusal_number (Items fault) = items_number fault
 refusal_number (Unmet code item) = rcode_number code
 refusal_number (Line line fault) = word_number fault
@@ -68,6 +76,7 @@ refusal_number (Store fault) = store_fault_number fault
 abbrev pub refusal_numbers : Refusal → List ℕ
 refusal_numbers (Master fault) = master_numbers fault
 refusal_numbers (Policy fault) = policy_numbers fault
+refusal_numbers (Groups fault) = group_numbers fault
 refusal_numbers refusal = refusal_number refusal ∷ []
 
 -- numbers with a dot between them

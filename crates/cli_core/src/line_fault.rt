@@ -1,7 +1,7 @@
 //! Why a job did not go through.
 
 ghost use Rattle.std.specs.Prelude.{◌≡◌};
-ghost use Rattle.cli_core.specs.LineFaults.{of_name, of_master, of_zone, of_item, of_policy, of_store};
+ghost use Rattle.cli_core.specs.LineFaults.{of_name, of_master, of_zone, of_item, of_policy, of_groups, of_store};
 ghost use Rattle.cli_core.specs.declared.line_fault.LineFault.TheVariants.{NoMemory};
 ghost use Rattle.cli_core.specs.declared.line_fault.JobFault.TheVariants as job;
 
@@ -9,6 +9,7 @@ use crate::refusal::Refusal;
 use dns_master::{DeviceFailed, MasterFault};
 use dns_names::NameFault;
 use grant_policy::PolicyFault;
+use policy_build::BuildFault;
 use refusals::words;
 use std::alloc::AllocError;
 use std::error::Error;
@@ -120,6 +121,17 @@ impl From<PolicyFault> for LineFault {
         match fault {
             PolicyFault::NoMemory => LineFault::NoMemory,
             fault => LineFault::Refused(Refusal::Policy(fault)),
+        }
+    }
+}
+
+impl From<BuildFault> for LineFault {
+    ghost from_gives = { λ f e. e ≡ of_groups f };
+
+    fn from(fault: BuildFault) -> LineFault {
+        match fault {
+            BuildFault::NoMemory => LineFault::NoMemory,
+            fault => LineFault::Refused(Refusal::Groups(fault)),
         }
     }
 }

@@ -1,13 +1,14 @@
 //! Why a job has no answer, and how that is told.
 
 ghost use Rattle.std.specs.Prelude.{◌≡◌, Some};
-ghost use Rattle.cli_core.specs.Refusals.{data_numbers, master_numbers, policy_numbers, refusal_number, refusal_numbers, dotted, refusal_place, refused_line};
+ghost use Rattle.cli_core.specs.Refusals.{data_numbers, master_numbers, policy_numbers, group_numbers, refusal_number, refusal_numbers, dotted, refusal_place, refused_line};
 
 use crate::word_fault::WordFault;
 use dns_data::DataFault;
 use dns_master::MasterFault;
 use dns_names::NameFault;
 use grant_policy::PolicyFault;
+use policy_build::BuildFault;
 use refusals::words;
 use std::error::Error;
 use std::fmt::{self, Display, Formatter, Write};
@@ -40,6 +41,8 @@ pub enum Refusal {
     Zone(ZoneFault),
     /// The input is no policy.
     Policy(PolicyFault),
+    /// The input is no file of groups, or makes no policy.
+    Groups(BuildFault),
     /// The items are no update. Lines count from that of the whole input.
     Items(ItemsFault),
     /// An item of the update has a name outside the zone (`NotZone`), or is a prerequisite that does not hold.
@@ -87,6 +90,7 @@ impl Refusal {
             Refusal::Master(fault) => fault.number(),
             Refusal::Zone(fault) => fault.number(),
             Refusal::Policy(fault) => fault.number(),
+            Refusal::Groups(fault) => fault.number(),
             Refusal::Items(fault) => fault.number(),
             Refusal::Unmet { code, .. } => code.number(),
             Refusal::Line { fault, .. } => fault.number(),
@@ -131,6 +135,7 @@ impl Display for Refusal {
             Refusal::Master(fault) => write!(f, "{fault}"),
             Refusal::Zone(fault) => write!(f, "{fault}"),
             Refusal::Policy(fault) => write!(f, "{fault}"),
+            Refusal::Groups(fault) => write!(f, "{fault}"),
             Refusal::Items(fault) => write!(f, "{fault}"),
             Refusal::Store(fault) => write!(f, "{fault}"),
             Refusal::Line { line, fault } => write!(f, "line {line}: {fault}"),
@@ -191,6 +196,21 @@ impl Display for PolicyNumbers {
     }
 }
 
+/// The number of a fault of a file of groups, with that of the name in it.
+#[derive(Clone, Copy)]
+struct GroupNumbers(BuildFault);
+
+impl Display for GroupNumbers {
+    ghost output = { λ n. Some (dotted (group_numbers n.0)) };
+
+    fn fmt<W: Write>(&self, f: &mut Formatter<W>) -> fmt::Result {
+        match self.0 {
+            BuildFault::Name(_, fault) => write!(f, "{}.{}", self.0.number(), fault.number()),
+            fault => write!(f, "{}", fault.number()),
+        }
+    }
+}
+
 /// The published number of a refusal, with those of what it stands for after it, and dots between them.
 #[derive(Clone, Copy)]
 struct Numbers(Refusal);
@@ -202,6 +222,7 @@ impl Display for Numbers {
         match self.0 {
             Refusal::Master(fault) => write!(f, "{}", MasterNumbers(fault)),
             Refusal::Policy(fault) => write!(f, "{}", PolicyNumbers(fault)),
+            Refusal::Groups(fault) => write!(f, "{}", GroupNumbers(fault)),
             refusal => write!(f, "{}", refusal.number()),
         }
     }
