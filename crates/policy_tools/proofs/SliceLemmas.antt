@@ -1,7 +1,8 @@
 -- Which rules speak of names within an origin, and what the others do not decide there.
-use Rattle.std.proofs.Common.{◌≡◌, ◌≢◌, ◌↔◌, ◌⊎◌, inl, inr, ℕ, zero, suc, ◌+◌, ◌<◌, ◌≤◌, Bool, true, false, ◌&&◌, cond, List, [], ◌∷◌, ◌++◌, length, map, get_or, take, Result, Ok, Err, IfOk, Vec, Global, Bor, refl, sym, ap, ◌∙◌, subst, ⊎_elim, arith}
+use Rattle.std.proofs.Common.{◌≡◌, ◌≢◌, ◌↔◌, ◌⊎◌, inl, inr, ℕ, zero, suc, ◌+◌, ◌<◌, ◌≤◌, Bool, true, false, ◌&&◌, cond, List, [], ◌∷◌, ◌++◌, length, map, get_or, take, Result, Ok, Err, IfOk, Vec, Global, Bor, codes, refl, sym, ap, ◌∙◌, subst, ⊎_elim, arith}
 use Rattle.std.specs.Prelude.{is_ok}
-use Rattle.std.specs.List.{All, Contains}
+use Rattle.std.specs.List.{All, AllByRecursion, Contains, IsDistinct}
+use Rattle.std.specs.Str.{bytes_eq}
 use Rattle.std.proofs.lemmas.Bool.{cases_Bool, cases_lt, false≢true, false_from_ne_true}
 use Rattle.std.proofs.lemmas.List.{take_more, take_all, map_push}
 use Rattle.std.proofs.lemmas.List.Elements.{All-nil, All-cons, Contains-push_cases}
@@ -11,6 +12,7 @@ use Rattle.dns_names.specs.Reading.{relative_name}
 use Rattle.grant_policy.specs.declared.rule.Rule.{Rule}
 use Rattle.grant_policy.specs.declared.scope.Scope.{Scope}
 use Rattle.grant_policy.specs.declared.scope.Scope.TheVariants.{Name, Subtree, Below}
+use Rattle.grant_policy.specs.Documents.{AreRules}
 use Rattle.grant_policy.specs.Decisions.{Verdict, decided, decision}
 use Rattle.grant_policy.specs.Isolated.{question}
 use Rattle.grant_policy.specs.Rules.{is_of, has, same_type, same_action, matches}
@@ -208,3 +210,45 @@ pub all_closed : {E : Type 0} (rules : List Rule) (origins : List Name') (r : Re
 all_closed rules origins (Ok unspoken) are =
     kept_each (λ (origin : Name'). ¬ IsSpokenOf rules origin) (IsClosed rules) (λ origin none. closed rules origin none) origins (map (λ (origin : Bor Name'). origin.now) unspoken.items) are
 all_closed rules origins (Err e) are = tt
+
+-- ---- what is kept of the rules of a policy
+
+module _ {X : Type 0} (Has : X → Type 0) where
+  -- what holds of all holds of those that are kept
+  all_kept : (Q : X → Type 0) (xs kept : List X) → AreKept Has xs kept → AllByRecursion Q xs → AllByRecursion Q kept
+  all_kept Q [] kept none all = subst (AllByRecursion Q) (sym none) tt
+  all_kept Q (x ∷ xs) kept (inl (here, (others, same, more))) all = subst (AllByRecursion Q) (sym same) (all.0, all_kept Q xs others more all.1)
+  all_kept Q (x ∷ xs) kept (inr (gone, more)) all = all_kept Q xs kept more all.1
+
+  few_kept : (xs kept : List X) → AreKept Has xs kept → length kept ≤ length xs
+  few_kept [] kept none = omega (arith, ap (λ (ks : List X). length ks) none)
+  few_kept (x ∷ xs) kept (inl (here, (others, same, more))) = omega (arith, few_kept xs others more, ap (λ (ks : List X). length ks) same)
+  few_kept (x ∷ xs) kept (inr (gone, more)) = omega (arith, few_kept xs kept more)
+
+  module _ {Y : Type 0} (view : X → Y) where
+    -- the same of what is seen of them
+    views_kept : (Q : Y → Type 0) (xs kept : List X) → AreKept Has xs kept → AllByRecursion Q (map view xs) → AllByRecursion Q (map view kept)
+    views_kept Q [] kept none all = subst (λ (ks : List X). AllByRecursion Q (map view ks)) (sym none) tt
+    views_kept Q (x ∷ xs) kept (inl (here, (others, same, more))) all =
+        subst (λ (ks : List X). AllByRecursion Q (map view ks)) (sym same) (all.0, views_kept Q xs others more all.1)
+    views_kept Q (x ∷ xs) kept (inr (gone, more)) all = views_kept Q xs kept more all.1
+
+    distinct_kept : (eq : Y → Y → Bool) (xs kept : List X) → AreKept Has xs kept → IsDistinct eq (map view xs) → IsDistinct eq (map view kept)
+    unfolding IsDistinct
+    distinct_kept eq [] kept none all = subst (λ (ks : List X). IsDistinct eq (map view ks)) (sym none) tt
+    distinct_kept eq (x ∷ xs) kept (inl (here, (others, same, more))) all =
+        subst (λ (ks : List X). IsDistinct eq (map view ks)) (sym same)
+        (views_kept (λ y. eq (view x) y ≡ false) xs others more all.0, distinct_kept eq xs others more all.1)
+    distinct_kept eq (x ∷ xs) kept (inr (gone, more)) all = distinct_kept eq xs kept more all.1
+
+-- those that are kept of the rules of a policy are the rules of one
+pub kept_rules : (Has : Rule → Type 0) (rules kept : List Rule) → AreKept Has rules kept → AreRules rules → AreRules kept
+kept_rules Has rules kept are all = record {
+  few = omega (arith, few_kept Has rules kept are, all.few);
+  distinct = distinct_kept Has (λ rule. rule.id) bytes_eq rules kept are all.distinct;
+  free = all_kept Has (λ rule. rule.id ≢ codes "closing") rules kept are all.free;
+}
+
+pub slice_rules : {E : Type 0} (origins : List Name') (rules : List Rule) (r : Result (Vec (Bor Rule) Global) E) → AreRules rules → IfOk r (λ slice. AreKept (Matters origins) rules (map (λ rule. rule.now) slice.items)) → IfOk r (λ slice. AreRules (map (λ rule. rule.now) slice.items))
+slice_rules origins rules (Ok slice) all are = kept_rules (Matters origins) rules (map (λ rule. rule.now) slice.items) are all
+slice_rules origins rules (Err e) all are = tt

@@ -3,6 +3,7 @@
 ghost use Rattle.std.specs.Prelude.{◌≡◌, ◌↔◌, map, IfOk, IsTrue};
 ghost use Rattle.std.specs.List.{All};
 ghost use Rattle.dns_names.specs.Labels.{IsName};
+ghost use Rattle.grant_policy.specs.Documents.{AreRules};
 ghost use Rattle.policy_tools.specs.Slices.{Touches, Matters, IsSpokenOf, AreKept, DecideSame, IsClosed, HasNames, Reaches};
 
 use crate::free_names::fits;
@@ -84,6 +85,8 @@ pub fn slice_of<'a>(
     ensures kept { IfOk result (λ slice. AreKept (Matters origins.now) policy.now (map (λ rule. rule.now) slice.items)) }
     // At all names within the origins they decide the same, and by the same rule.
     ensures same { IfOk result (λ slice. DecideSame origins.now policy.now (map (λ rule. rule.now) slice.items)) }
+    // They are the rules of a policy too.
+    ensures policy { IfOk result (λ slice. AreRules (map (λ rule. rule.now) slice.items)) }
 {
     slice_among(alloc, policy.rules(), origins)
 }
