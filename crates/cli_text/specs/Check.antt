@@ -40,6 +40,7 @@ use Rattle.cli_text.specs.PolicyChanges.{IsChangesReport}
 use Rattle.cli_text.specs.Expect.{expectations_read, IsExpectReport}
 use Rattle.cli_text.specs.OriginLists.{origins_of}
 use Rattle.cli_text.specs.PolicyZones.{IsZonesReport}
+use Rattle.cli_text.specs.PrintedPolicies.{zones_if, rules_from, IsPolicyText}
 use Rattle.cli_text.specs.ReportLines.{id_text, right_text, other_text}
 use Rattle.cli_core.specs.LineFaults.{◌>>=◌, or_refused, limited, of_names, of_policies, Makes, ReachesInput}
 use Rattle.cli_core.specs.Refusals.{refused_line}
@@ -64,6 +65,7 @@ asked_in (subject.Expected policy) = Ok (asked.Expected policy)
 asked_in (subject.Zones policy reader) = Ok (asked.Zones policy reader)
 asked_in (subject.Isolation word) = or_refused (identifier_of word.now) NoCaller >>= λ caller. Ok (asked.Isolation caller)
 asked_in (subject.Rights word) = name_if (option_map (λ w. w.now) word) >>= λ name. Ok (asked.Rights name)
+asked_in (subject.Printed source word) = zones_if (option_map (λ w. w.now) word) >>= λ zones. Ok (asked.Printed source zones)
 asked_in (subject.Reverse word) = of_names (absolute_name word.now) >>= λ origin. Ok (asked.Reverse origin)
 asked_in (subject.Zone origin rules) = tests_of rules >>= λ tests. of_names (absolute_name origin.now) >>= λ name. Ok (asked.Zone name tests)
 
@@ -75,6 +77,7 @@ checking_of (asked.Expected policy) text = expectations_read text >>= λ rows. O
 checking_of (asked.Zones policy reader) text = origins_of text >>= λ zones. Ok (checking.Zones policy reader zones)
 checking_of (asked.Isolation caller) text = rules_in text >>= λ rules. Ok (checking.Isolation caller rules)
 checking_of (asked.Rights name) text = rules_in text >>= λ rules. Ok (checking.Rights name rules)
+checking_of (asked.Printed source zones) text = rules_from source text >>= λ rules. Ok (checking.Printed (record { rules = rules; zones = zones }))
 checking_of (asked.Reverse origin) text = records_of text >>= λ records. Ok (checking.Reverse origin records)
 checking_of (asked.Zone origin tests) text = zone_of_file origin text >>= λ zone. Ok (checking.Zone zone tests)
 
@@ -140,6 +143,7 @@ IsReportOn (checking.Expected policy rows) findings text = IsExpectReport policy
 IsReportOn (checking.Zones policy reader zones) findings text = IsZonesReport policy.now (option_map (λ r. r.now) reader) zones findings text
 IsReportOn (checking.Isolation caller rules) findings text = IsIsolationReport rules caller findings text
 IsReportOn (checking.Rights name rules) findings text = IsRightsText name rules text × (findings ≡ Absent)
+IsReportOn (checking.Printed printed) findings text = IsPolicyText printed findings text
 IsReportOn (checking.Reverse origin records) findings text = IsReverseReport origin records findings text
 IsReportOn (checking.Zone zone tests) findings text = IsZoneReport zone tests findings text
 

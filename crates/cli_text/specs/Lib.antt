@@ -14,6 +14,7 @@ pub mod ReportLines
 pub mod Expect
 pub mod OriginLists
 pub mod PolicyZones
+pub mod PrintedPolicies
 pub mod Reverse
 pub mod PolicyChanges
 pub mod Check

@@ -1,5 +1,5 @@
 //! What is true of a policy whatever is asked: which of its rules never decide, what it changes, what it leaves out of zones, whether a
-//! caller is isolated, and who may do what. And what is wrong in a zone, or called for by zones.
+//! caller is isolated, and who may do what; and its text. And what is wrong in a zone, or called for by zones.
 
 ghost use Rattle.std.specs.Prelude.{◌≡◌, ◌++◌, ◌<◌, ℕ, IfOk, OnOk, decimal, option_map};
 ghost use Rattle.cli_text.specs.ReportLines.{id_text, right_text, other_text};
@@ -14,11 +14,14 @@ use crate::expectations::{Expectations, expectations_in};
 use crate::origin_list::{OriginList, origins_in};
 use crate::policy_changes::changes_report;
 use crate::policy_zones::zones_report;
+use crate::printed_policy::{PrintedPolicy, WantedZones, policy_report, printed_in, zones_if};
 use crate::reverse::{ForwardRecords, forward_records, reverse_report};
 use crate::rights::read_caller;
 use crate::rights_check::rights_list;
 use crate::zone_check::{ZoneTests, tests_of, zone_report};
-use cli_core::{Input, JobFault, LineFault, ZoneRules, read_input, write_refusal, write_text};
+use cli_core::{
+    Input, JobFault, LineFault, PolicySource, ZoneRules, read_input, write_refusal, write_text,
+};
 use dns_master::Sink;
 use dns_names::Name;
 use grant_policy::{Identifier, Policy, Rule, read_policy};
@@ -41,6 +44,8 @@ pub enum Subject<'a> {
     Isolation(&'a str),
     /// Who may do what, at the name that this word is, or at all names.
     Rights(Option<&'a str>),
+    /// What is printed of the policy that it is, or that is made of it, for the zones that this text names.
+    Printed(PolicySource, Option<&'a str>),
     /// The pointers that its addresses call for in the reverse zone of this origin.
     Reverse(&'a str),
     /// What other name servers refuse or warn of in the zone of this origin, and what else is asked for.
@@ -65,6 +70,7 @@ enum Asked<'a> {
     Zones(&'a Policy, Option<&'a Identifier>),
     Isolation(Identifier),
     Rights(Option<Name>),
+    Printed(PolicySource, WantedZones),
     Reverse(Name),
     Zone(Name, ZoneTests),
 }
@@ -78,6 +84,7 @@ enum Checking<'a> {
     Zones(&'a Policy, Option<&'a Identifier>, OriginList),
     Isolation(Identifier, Policy),
     Rights(Option<Name>, Policy),
+    Printed(PrintedPolicy),
     Reverse(Name, ForwardRecords),
     Zone(Zone, ZoneTests),
 }
@@ -118,6 +125,7 @@ fn asked_in<'a>(alloc: Global, subject: Subject<'a>) -> Result<Asked<'a>, LineFa
         Subject::Zones(policy, reader) => Ok(Asked::Zones(policy, reader)),
         Subject::Isolation(word) => Ok(Asked::Isolation(read_caller(alloc, word)?)),
         Subject::Rights(word) => Ok(Asked::Rights(name_if(alloc, word)?)),
+        Subject::Printed(source, zones) => Ok(Asked::Printed(source, zones_if(alloc, zones)?)),
         Subject::Reverse(word) => Ok(Asked::Reverse(read_name(alloc, word)?)),
         Subject::Zone(origin, rules) => zone_asked(alloc, origin, rules),
     }
@@ -147,6 +155,9 @@ fn checking_of<'a>(
         }
         Asked::Isolation(caller) => Ok(Checking::Isolation(caller, policy_in(alloc, text)?)),
         Asked::Rights(name) => Ok(Checking::Rights(name, policy_in(alloc, text)?)),
+        Asked::Printed(source, zones) => {
+            Ok(Checking::Printed(printed_in(alloc, source, zones, text)?))
+        }
         Asked::Reverse(origin) => {
             let forward = forward_records(alloc, text)?;
             Ok(Checking::Reverse(origin, forward))
@@ -353,6 +364,7 @@ fn report_on(alloc: Global, checking: &Checking<'_>) -> Result<Report, AllocErro
         Checking::Zones(policy, reader, zones) => zones_report(alloc, policy, *reader, zones),
         Checking::Isolation(caller, policy) => isolation_report(alloc, policy, caller),
         Checking::Rights(name, policy) => rights_report(alloc, policy, name),
+        Checking::Printed(printed) => policy_report(alloc, printed),
         Checking::Reverse(origin, forward) => reverse_report(alloc, origin, forward),
         Checking::Zone(zone, tests) => zone_report(alloc, zone, *tests),
     }
@@ -375,8 +387,8 @@ fn report_read<R: Input>(
 /// caller from that: `soa`, a name, and a type, an action and a rule by which the caller may see an SOA there; or `shared`, a name, what
 /// the caller may do there, another caller or `*` for any that no rule names, and what that one may do. Of expectations it is a line for
 /// each that is not so: `differs`, its line, and what is decided; or `exceeds`, its line, and a caller, a name, a type, an action and a
-/// rule that grants beyond its limit. Of the zones of a list it is what `do_policy_zones` says. Of forward zones it is the PTR records that
-/// their addresses call for. Otherwise one line tells the refusal that comes first: of the caller, that the input is too large, or what is
+/// rule that grants beyond its limit. Of the zones of a list it is what `do_policy_zones` says. Of a policy that is printed it is the text of it. Of forward zones it
+/// is the PTR records that their addresses call for. Otherwise one line tells the refusal that comes first: of the caller, that the input is too large, or what is
 /// wrong in it.
 pub fn do_check<R: Input, W: Sink>(
     alloc: Global,

@@ -28,6 +28,7 @@ mod plan_fault;
 mod policy_changes;
 mod policy_zones;
 mod policy_zones_fault;
+mod printed_policy;
 mod query_type;
 mod questions;
 mod request;
