@@ -26,7 +26,7 @@ use Rattle.cli_core.specs.declared.line_fault.JobFault.{JobFault}
 use Rattle.cli_text.specs.declared.check.Findings.{Findings}
 use Rattle.cli_text.specs.declared.check.Findings.TheVariants.{Absent, Present}
 use Rattle.cli_text.specs.declared.check.Subject.{Subject}
-use Rattle.cli_text.specs.declared.check.Subject.TheVariants.{Rules, Isolation, Rights, Reverse, Zone}
+use Rattle.cli_text.specs.declared.check.Subject.TheVariants.{Rules, Isolation, Rights, Printed, Reverse, Zone}
 use Rattle.cli_text.specs.declared.changes_fault.ChangesFault.{ChangesFault}
 use Rattle.cli_text.specs.declared.diff_fault.DiffFault.{DiffFault}
 use Rattle.cli_text.specs.declared.expect_fault.ExpectFault.{ExpectFault}
@@ -209,6 +209,8 @@ TextJobEnds a i o (text_job.Rights w) status =
 TextJobEnds a i o (text_job.Plan w) status =
     Ends (λ outcome. IsPlanned w.form w.caller.now (named a w.policy.now) (standard i) o.old o.new outcome o.before o.after) status
 TextJobEnds a i o (text_job.Check w) status = CheckEnds a i o w status
+TextJobEnds a i o (text_job.Policy w) status =
+    EndsCheckOf a i (Printed w.source w.zones) (unwrap_or (option_map (λ f. f.now) w.file) (codes "-")) o status
 TextJobEnds a i o (text_job.Answer w) status = AnswerEnds a i w o status
 TextJobEnds a i o (text_job.Reverse w) status = EndsCheckOf a i (Reverse w.origin) w.file.now o status
 TextJobEnds a i o (text_job.Explain w) status =

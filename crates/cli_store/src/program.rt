@@ -456,6 +456,10 @@ pub fn do_text_job<M: Surroundings, R: Source, W: Sink>(
             plan(around, words.policy, what, input, output)
         }
         TextJob::Check(words) => check_job(around, words, input, output),
+        TextJob::Policy(words) => {
+            let subject = Subject::Printed(words.source, words.zones);
+            check_of(around, subject, words.file.unwrap_or("-"), input, output)
+        }
         TextJob::Answer(words) => answer(around, words, input, output),
         TextJob::Reverse(words) => {
             let subject = Subject::Reverse(words.origin);
