@@ -64,7 +64,7 @@ fn origin_on(alloc: Global, line: usize, word: Option<&[u8]>) -> Result<Option<N
 }
 
 /// Appends an origin. The only error is out of memory.
-fn push_origin(origins: &mut Vec<Name>, origin: Name) -> Result<(), AllocError>
+pub(crate) fn push_origin(origins: &mut Vec<Name>, origin: Name) -> Result<(), AllocError>
     ensures { OnOk result (origins.new.items ≡ origins.old.items ++ origin ∷ []) }
 {
     origins.push(origin)?;

@@ -10,6 +10,7 @@ ghost use Rattle.cli_core.specs.LineFaults.{◌>>=◌, Gives, of_names};
 ghost use Rattle.cli_text.specs.PrintedPolicies.{PrintedOf, is_gap, words_in, names_from, some_names, zones_if, rules_from, AreWanted, IsPolicyText};
 
 use crate::check::{Findings, Report};
+use crate::origin_list::push_origin;
 use cli_core::{LineFault, PolicySource, Refusal};
 use dns_names::{Name, NameFault};
 use grant_policy::{Policy, Rule};
@@ -78,7 +79,7 @@ fn names_from(alloc: Global, words: &[&[u8]]) -> Result<Vec<Name>, LineFault>
     let mut names = Vec::new(alloc);
     for word in words {
         let name = name_of(alloc, *word)?;
-        names.push(name)?;
+        push_origin(&mut names, name)?;
     }
     Ok(names)
 }

@@ -2,8 +2,8 @@
 
 use cli_core::{
     Advice, Answer, Check, DiffForm, Existing, GuardScope, ItemForm, Job, LogChoice, PlanForm,
-    QuestionWords, RequestForm, RuleChoice, Service, StoreJob, StoredZone, TextForm, TextJob,
-    WordsFault, ZoneFiles, ZoneForm, ZoneRules, read_words,
+    PolicySource, PolicyText, QuestionWords, RequestForm, RuleChoice, Service, StoreJob,
+    StoredZone, TextForm, TextJob, WordsFault, ZoneFiles, ZoneForm, ZoneRules, read_words,
 };
 use std::alloc::{AllocError, Global};
 use test_rows::Row;
@@ -93,12 +93,24 @@ fn push_text_job(alloc: Global, job: &TextJob<'_>, answer: &mut Vec<u8>) -> Resu
             push_plan(words.policy, words.caller, plan_text(words.form), answer)
         }
         TextJob::Check(words) => push_check(alloc, words, answer),
+        TextJob::Policy(words) => push_policy(words, answer),
         TextJob::Answer(words) => push_inquiry(words, answer),
         TextJob::Reverse(words) => {
             push_all(&["reverse (", words.origin, ") (", words.file, ")"], answer)
         }
         TextJob::Explain(words) => push_explain(words.number, words.form, answer),
     }
+}
+
+/// Appends which policy is printed.
+fn push_policy(words: &PolicyText<'_>, answer: &mut Vec<u8>) -> Result<(), AllocError> {
+    let source = match words.source {
+        PolicySource::Groups => "policy of groups",
+        PolicySource::Rules => "policy of rules",
+    };
+    push(source, answer)?;
+    push_if_given(words.file, answer)?;
+    push_named(" zones", words.zones, answer)
 }
 
 /// Appends what a server is asked.
@@ -142,6 +154,18 @@ fn push_check(alloc: Global, words: &Check<'_>, answer: &mut Vec<u8>) -> Result<
             &["check isolation (", policy, ") (", caller, ")"],
             answer,
         ),
+        Check::Reach {
+            policy,
+            caller,
+            origin,
+            file,
+        } => {
+            push_all(
+                &["check reach (", policy, ") (", caller, ") (", origin, ")"],
+                answer,
+            )?;
+            push_if_given(*file, answer)
+        }
         Check::Rights { policy, name } => {
             push_all(&["check rights (", policy, ")"], answer)?;
             push_if_given(*name, answer)
@@ -185,6 +209,7 @@ fn push_store_job(
             push_number(alloc, " to ", words.last, answer)
         }
         StoreJob::Migrate(words) => push_given("migrate", words.store, "", answer),
+        StoreJob::Remove(words) => push_zone("remove", &words.zone, "", answer),
         StoreJob::Serve(service) => push_service(alloc, service, answer),
     }
 }
