@@ -55,6 +55,7 @@ argument_row argument.Json = (codes "json", Flag)
 argument_row argument.Guard = (codes "guard", Flag)
 argument_row argument.GuardSets = (codes "guard-sets", Flag)
 argument_row argument.Answers = (codes "answers", Flag)
+argument_row argument.Explain = (codes "explain", Flag)
 argument_row argument.Old = (codes "old", Place)
 argument_row argument.New = (codes "new", Place)
 argument_row argument.Id = (codes "id", Optional)
@@ -90,7 +91,7 @@ command_row command.Migrate = (codes "migrate", argument.Store ∷ [])
 command_row command.Remove = (codes "remove", argument.Store ∷ argument.Origin ∷ [])
 command_row command.Rights =
     (codes "rights", argument.Policy ∷ argument.Caller ∷ argument.Name ∷ argument.Type ∷ argument.Action ∷ [])
-command_row command.Plan = (codes "plan", argument.Policy ∷ argument.Caller ∷ argument.Answers ∷ [])
+command_row command.Plan = (codes "plan", argument.Policy ∷ argument.Caller ∷ argument.Answers ∷ argument.Explain ∷ [])
 command_row command.Serve =
     (codes "serve", argument.Store ∷ argument.Policy ∷ argument.Listen ∷ argument.Connections ∷ argument.Patience ∷ argument.Longest ∷ argument.Memory ∷ [])
 command_row command.Check =

@@ -74,6 +74,19 @@ form_by _ _ _ = None
 abbrev pub tells_answers : PlanForm → Bool
 tells_answers plan_form.Records = false
 tells_answers plan_form.Answers = true
+tells_answers plan_form.Explained = false
+
+abbrev pub explains : PlanForm → Bool
+explains plan_form.Records = false
+explains plan_form.Answers = false
+explains plan_form.Explained = true
+
+-- the form of two flags, of which only one is given
+abbrev pub plan_form_by : Bool → Bool → Option PlanForm
+plan_form_by false false = Some plan_form.Records
+plan_form_by true false = Some plan_form.Answers
+plan_form_by false true = Some plan_form.Explained
+plan_form_by true true = None
 
 abbrev pub is_json : TextForm → Bool
 is_json Plain = false
@@ -157,7 +170,7 @@ asks_text (text_job.Rights w) = (
       ∷ (argument.Type, given w.asked.record_type.now) ∷ (argument.Action, given w.asked.action.now) ∷ [],
 )
 asks_text (text_job.Plan w) =
-    (command.Plan, (argument.Policy, given w.policy.now) ∷ (argument.Caller, given w.caller.now) ∷ (argument.Answers, flag (tells_answers w.form)) ∷ [])
+    (command.Plan, (argument.Policy, given w.policy.now) ∷ (argument.Caller, given w.caller.now) ∷ (argument.Answers, flag (tells_answers w.form)) ∷ (argument.Explain, flag (explains w.form)) ∷ [])
 asks_text (text_job.Check w) = asks_check w
 asks_text (text_job.Policy w) = asks_policy w
 asks_text (text_job.Answer w) = (

@@ -50,6 +50,7 @@ pub enum Argument {
     Guard,
     GuardSets,
     Answers,
+    Explain,
     Old,
     New,
     Id,
@@ -297,6 +298,11 @@ impl Argument {
                 name: "answers",
                 form: Form::Flag,
                 help: "Which questions a server answers otherwise after the change",
+            },
+            Argument::Explain => &Row {
+                name: "explain",
+                form: Form::Flag,
+                help: "What the policy decides of each item, and by which rule",
             },
             Argument::Old => &Row {
                 name: "old",

@@ -111,13 +111,15 @@ pub enum GuardScope {
     Sets,
 }
 
-/// What a plan prints of an update that would be made.
+/// What a plan prints.
 #[derive(Clone, Copy)]
 pub enum PlanForm {
-    /// The records that go and come.
+    /// The reply, and of an update that would be made the records that go and come.
     Records,
     /// These, and the questions that a server answers otherwise then.
     Answers,
+    /// What the policy decides of each item, and then these.
+    Explained,
 }
 
 /// As how many bodies an update is printed.

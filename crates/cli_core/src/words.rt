@@ -65,6 +65,7 @@ fn mistake_in(matches: &ArgMatches<'_>) -> &'static str {
         Some(("check", _)) =>
             "a policy is checked --against another or beside --zones, a --reader only beside these; a zone by --only one rule or by all but one --not",
         Some(("import", _)) => "one of --origin and --list is needed, and only one of them",
+        Some(("plan", _)) => "only one of --answers and --explain is given",
         Some(("policy", _)) =>
             "policy build makes a policy from groups and templates, and policy print prints a policy",
         Some(("request", _)) => "one of --id and --split is needed, and only one of them",
@@ -128,7 +129,7 @@ fn reported(alloc: Global, words: &[&str], error: Error) -> WordsFault
 /// `import --store PATH (--origin NAME | --list LIST) [--replace]`; `export --store PATH --origin NAME [--at N] [--relative]`; `zones --store PATH`;
 /// `log --store PATH --origin NAME [--from N] [--name NAME] [--caller CALLER]`; `blame --store PATH --origin NAME [--name NAME]`;
 /// `undo --store PATH --origin NAME [--change N] [--to N]`; `migrate --store PATH`; `remove --store PATH --origin NAME`;
-/// `rights --policy PATH --caller CALLER NAME TYPE ACTION`; `plan --policy PATH --caller CALLER [--answers]`;
+/// `rights --policy PATH --caller CALLER NAME TYPE ACTION`; `plan --policy PATH --caller CALLER [--answers | --explain]`;
 /// `serve --store PATH --policy PATH --listen ADDRESS:PORT [--connections N] [--patience SECONDS] [--longest SECONDS] [--memory MB]`;
 /// `check policy --policy PATH [--against PATH | --zones PATH [--reader CALLER]]`; `check expect [FILE] --policy PATH`; `check isolation --policy PATH --caller CALLER`;
 /// `check reach [FILE] --policy PATH --caller CALLER --origin NAME`; `check rights [NAME] --policy PATH`; `check zone --origin NAME [--only RULE | --not RULE] [--server SERVER] [--most N] [--warn]`;

@@ -278,6 +278,7 @@ fn plan_text(form: PlanForm) -> &'static str {
     match form {
         PlanForm::Records => "",
         PlanForm::Answers => " answers",
+        PlanForm::Explained => " explained",
     }
 }
 

@@ -3,7 +3,7 @@
 ghost use Rattle.std.specs.Prelude.{◌≡◌};
 ghost use Rattle.clap.specs.Words.{first_of, found_of, rows_of};
 ghost use Rattle.cli_core.specs.Commands.{argument_name};
-ghost use Rattle.cli_core.specs.Jobs.{tells_answers};
+ghost use Rattle.cli_core.specs.Jobs.{plan_form_by};
 ghost use Rattle.cli_core.specs.Values.{flag_if};
 ghost use Rattle.cli_core.specs.declared.argument.Argument.TheVariants as argument;
 ghost use Rattle.cli_core.specs.declared.commands.Command.TheVariants as command;
@@ -21,7 +21,7 @@ pub struct Plan<'a> {
     pub policy: &'a str,
     /// Who asks.
     pub caller: &'a str,
-    /// What is printed of an update that would be made.
+    /// What is printed.
     pub form: PlanForm,
 }
 
@@ -29,17 +29,27 @@ pub(super) static ROW: Row = Row {
     word: "plan",
     about: "Says what the office would answer to an update of a zone",
     example: "Example: zoneoffice plan --policy policy.toml --caller phys < update.txt",
-    arguments: &[Argument::Policy, Argument::Caller, Argument::Answers],
+    arguments: &[
+        Argument::Policy,
+        Argument::Caller,
+        Argument::Answers,
+        Argument::Explain,
+    ],
 };
 
-/// What is printed of an update that would be made.
-fn form_at(matches: &ArgMatches<'_>) -> PlanForm
-    ensures { tells_answers result ≡ flag_if (first_of (argument_name argument.Answers) (rows_of (found_of matches.now))) }
+/// What is printed, unless two forms are asked for.
+fn form_at(matches: &ArgMatches<'_>) -> Option<PlanForm>
+    ensures { result ≡ plan_form_by (flag_if (first_of (argument_name argument.Answers) (rows_of (found_of matches.now))))
+        (flag_if (first_of (argument_name argument.Explain) (rows_of (found_of matches.now)))) }
 {
-    if flag_at(matches, Argument::Answers) {
-        PlanForm::Answers
-    } else {
-        PlanForm::Records
+    match (
+        flag_at(matches, Argument::Answers),
+        flag_at(matches, Argument::Explain),
+    ) {
+        (false, false) => Some(PlanForm::Records),
+        (true, false) => Some(PlanForm::Answers),
+        (false, true) => Some(PlanForm::Explained),
+        (true, true) => None,
     }
 }
 
@@ -48,7 +58,7 @@ impl<'a> CommandWords<'a> for Plan<'a> {
 
     fn read(matches: &ArgMatches<'a>) -> Option<Job<'a>> {
         let (policy, caller) = texts_at(matches, Argument::Policy, Argument::Caller)?;
-        let form = form_at(matches);
+        let form = form_at(matches)?;
         Some(Job::Text(TextJob::Plan(Plan {
             policy,
             caller,
