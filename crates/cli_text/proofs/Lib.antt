@@ -1,6 +1,7 @@
 pub mod ItemLemmas
 pub mod LineLemmas
 pub mod PartLemmas
+pub mod ExplainedLemmas
 pub mod PlanLemmas
 pub mod QuestionLemmas
 pub mod AnswerObjectLemmas

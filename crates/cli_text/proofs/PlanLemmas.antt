@@ -13,8 +13,8 @@ use Rattle.office_core.specs.Machine.{zone_refusal}
 use Rattle.office_core.specs.Steps.{Makes, held_in}
 use Rattle.office_core.proofs.MadeLemmas.{never_made}
 use Rattle.cli_core.specs.declared.job.PlanForm.{PlanForm}
-use Rattle.cli_core.specs.declared.job.PlanForm.TheVariants.{Records, Answers}
-use Rattle.cli_text.specs.Plan.{AskerOf, ZoneUpdateOf, reply_line, change_lines, serial_line, plan_lines, planned, AreLinesOf, IsPlanText, AreLinesAfter}
+use Rattle.cli_core.specs.declared.job.PlanForm.TheVariants.{Records, Answers, Explained}
+use Rattle.cli_text.specs.Plan.{AskerOf, ZoneUpdateOf, reply_line, change_lines, serial_line, plan_lines, planned, AreLinesOf, IsReplyText, AreLinesAfter}
 
 module _ (asker : AskerOf) (zone : ZoneOf) (update : UpdateOf) (reply : UpdateReply) (change : Option ChangeOf) where
   abbrev asked : ZoneUpdateOf
@@ -61,8 +61,9 @@ module _ (asker : AskerOf) (zone : ZoneOf) (update : UpdateOf) (reply : UpdateRe
       ∙ (append_assoc (reply_line reply) (change_lines change) (serial_line (zone_after zone update)) ∙ sym (lines_made makes is)))
 
   pub text_made : (form : PlanForm) (old new : List ℕ) → Makes zone update refused reply change → reply ≡ NoError → old ≡ reply_line reply ++ change_lines change
-      → AreLinesAfter form zone (zone_after zone update) old new → IsPlanText form asker asked new
+      → AreLinesAfter form zone (zone_after zone update) old new → IsReplyText form asker asked new
   text_made Records old new makes is so after = lines_after old new makes is so after
+  text_made Explained old new makes is so after = lines_after old new makes is so after
   text_made Answers old new makes is so after =
       let whole = old ++ serial_line (zone_after zone update) in (
         after.0,
@@ -70,8 +71,9 @@ module _ (asker : AskerOf) (zone : ZoneOf) (update : UpdateOf) (reply : UpdateRe
         after.2 ∙ ap (λ bs. bs ++ after.0) (lines_after old whole makes is so refl),
       )
 
-  pub text_refused : (form : PlanForm) (text : List ℕ) → Makes zone update refused reply change → reply ≢ NoError → text ≡ reply_line reply → IsPlanText form asker asked text
+  pub text_refused : (form : PlanForm) (text : List ℕ) → Makes zone update refused reply change → reply ≢ NoError → text ≡ reply_line reply → IsReplyText form asker asked text
   text_refused Records text makes other e = e ∙ sym (lines_refused makes other)
+  text_refused Explained text makes other e = e ∙ sym (lines_refused makes other)
   text_refused Answers text makes other e =
       ([], none_after refused makes, e ∙ (sym (lines_refused makes other) ∙ sym (append-nil (planned asker asked))))
     where

@@ -35,4 +35,5 @@ pub mod Split
 pub mod PartLines
 pub mod SplitPromises
 pub mod SplitEffects
+pub mod Explained
 pub mod Plan

@@ -1,5 +1,5 @@
--- What `plan` prints: what the office would answer to an update of a zone by a caller, what that would change, and in a form which questions
--- a server answers otherwise then; of an input that is a master file, a line `--`, and items.
+-- What `plan` prints: what the office would answer to an update of a zone by a caller, what that would change, and in forms which questions
+-- a server answers otherwise then, or what the policy decides of each item; of an input that is a master file, a line `--`, and items.
 use Rattle.std.specs.Prelude.{◌≡◌, ℕ, List, [], ◌∷◌, ◌++◌, codes, decimal, Option, Some, None, Result, Ok, Err}
 use Rattle.std.specs.List.{flat_map}
 use Rattle.dns_data.specs.declared.record.Record.{Record}
@@ -19,7 +19,7 @@ use Rattle.office_model.specs.ReplyWords.{reply_words}
 use Rattle.cli_text.specs.declared.plan.Asker.{Asker}
 use Rattle.cli_text.specs.declared.plan.ZoneUpdate.{ZoneUpdate}
 use Rattle.cli_core.specs.declared.job.PlanForm.{PlanForm}
-use Rattle.cli_core.specs.declared.job.PlanForm.TheVariants.{Records, Answers}
+use Rattle.cli_core.specs.declared.job.PlanForm.TheVariants.{Records, Answers, Explained}
 use Rattle.cli_core.specs.declared.refusal.Refusal.{Refusal}
 use Rattle.cli_core.specs.declared.refusal.Refusal.TheVariants.{NoCaller, NoDivider}
 use Rattle.cli_core.specs.declared.line_fault.JobFault.{JobFault}
@@ -30,6 +30,7 @@ use Rattle.cli_core.specs.Replies.{Answered}
 use Rattle.cli_text.specs.Parts.{divided}
 use Rattle.cli_text.specs.Apply.{zone_of_text, update_behind}
 use Rattle.cli_text.specs.ChangedAnswerLines.{AreAnswerLines}
+use Rattle.cli_text.specs.Explained.{update_lines}
 use Rattle.cli_text.specs.Texts.{Told}
 use Rattle.cli_core.specs.Inputs.{InputOf}
 
@@ -106,14 +107,22 @@ abbrev pub AreLinesOf : ZoneUpdateOf → Option UpdateReply → List ℕ → Typ
 AreLinesOf u (Some refused) lines = lines ≡ []
 AreLinesOf u None lines = AreAnswerLines u.zone (zone_after u.zone u.update) lines
 
--- what is printed, in a form
+-- the reply and what follows it, in a form
+abbrev pub IsReplyText : PlanForm → AskerOf → ZoneUpdateOf → List ℕ → Type 0
+IsReplyText Answers asker u text = (lines : List ℕ) × AreLinesOf u (plan_refusal asker u) lines × (text ≡ planned asker u ++ lines)
+IsReplyText Records asker u text = text ≡ planned asker u
+IsReplyText Explained asker u text = text ≡ planned asker u
+
+-- what is printed, in a form: of one that explains, what the policy decides of all that the items ask for comes first
 abbrev pub IsPlanText : PlanForm → AskerOf → ZoneUpdateOf → List ℕ → Type 0
-IsPlanText Records asker u text = text ≡ planned asker u
-IsPlanText Answers asker u text = (lines : List ℕ) × AreLinesOf u (plan_refusal asker u) lines × (text ≡ planned asker u ++ lines)
+IsPlanText Records asker u text = IsReplyText Records asker u text
+IsPlanText Answers asker u text = IsReplyText Answers asker u text
+IsPlanText Explained asker u text = text ≡ update_lines asker.rules asker.caller u.zone.origin u.update ++ planned asker u
 
 -- what is appended in a form to a text, of a zone before an update and after it
 abbrev pub AreLinesAfter : PlanForm → ZoneOf → ZoneOf → List ℕ → List ℕ → Type 0
 AreLinesAfter Records before after old new = new ≡ old ++ serial_line after
+AreLinesAfter Explained before after old new = new ≡ old ++ serial_line after
 AreLinesAfter Answers before after old new = (lines : List ℕ) × AreAnswerLines before after lines × (new ≡ (old ++ serial_line after) ++ lines)
 
 -- ---- the zone and the update

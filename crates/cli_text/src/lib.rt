@@ -16,6 +16,7 @@ mod expect;
 mod expect_fault;
 mod expectations;
 mod explain;
+mod explained;
 mod filling;
 mod guard;
 mod laws;

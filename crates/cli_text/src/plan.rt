@@ -6,10 +6,11 @@ ghost use Rattle.zone_core.specs.Updates.{ActsWithin};
 ghost use Rattle.zone_core.specs.Effects.{zone_after};
 ghost use Rattle.cli_core.specs.LineFaults.{Gives, GivesOf};
 ghost use Rattle.cli_text.specs.Texts.{GivesText, Told};
-ghost use Rattle.cli_text.specs.Plan.{asker_in, asker_of, asker_read, reply_line, signed_lines, change_lines, serial_line, zone_update, zone_update_in, zone_update_read, AreLinesAfter, IsPlanText, IsAskerRead, IsPlanned};
+ghost use Rattle.cli_text.specs.Plan.{asker_in, asker_of, asker_read, reply_line, signed_lines, change_lines, serial_line, zone_update, zone_update_in, zone_update_read, AreLinesAfter, IsReplyText, IsPlanText, IsAskerRead, IsPlanned};
 
 use crate::apply::{InputRead, read_parts, zone_of_records};
 use crate::changed_answers::answer_lines;
+use crate::explained::Explainer;
 use crate::plan_fault::PlanFault;
 use crate::rights::read_caller;
 use cli_core::{Input, JobFault, LineFault, PlanForm, read_input, write_answer, write_refusal};
@@ -104,7 +105,7 @@ fn push_after(
     ensures { OnOk result (AreLinesAfter form zone (zone_after zone update.now) (string_bytes text.old) (string_bytes text.new)) }
 {
     match form {
-        PlanForm::Records => {
+        PlanForm::Records | PlanForm::Explained => {
             let outcome = apply_owned(alloc, zone, update)?;
             push_serial(text, &outcome.zone)
         }
@@ -117,14 +118,14 @@ fn push_after(
     }
 }
 
-/// What the office would answer to an update of a zone, in lines. The only error is out of memory.
-fn planned(
+/// What the office would answer to an update of a zone, and change, in lines. The only error is out of memory.
+fn reply_text(
     alloc: Global,
     asker: &Asker,
     form: PlanForm,
     asked: ZoneUpdate,
 ) -> Result<String, AllocError>
-    ensures { IfOk result (λ text. IsPlanText form (asker_in asker.now) (zone_update asked) (string_bytes text)) }
+    ensures { IfOk result (λ text. IsReplyText form (asker_in asker.now) (zone_update asked) (string_bytes text)) }
 {
     let ZoneUpdate { zone, update } = asked;
     let (reply, change) = plan(alloc, &asker.policy, &asker.caller, &zone, &update)?;
@@ -134,6 +135,36 @@ fn planned(
         push_after(alloc, &mut text, form, zone, &update)?;
     }
     Ok(text)
+}
+
+/// What the policy decides of each item, and then what the office would answer and change, in lines. The only error is out of memory.
+fn explained(alloc: Global, asker: &Asker, asked: ZoneUpdate) -> Result<String, AllocError>
+    ensures { IfOk result (λ text. IsPlanText PlanForm.Explained (asker_in asker.now) (zone_update asked) (string_bytes text)) }
+{
+    let explainer = Explainer {
+        policy: &asker.policy,
+        caller: &asker.caller,
+    };
+    let mut text = String::new(alloc);
+    explainer.push_update(&mut text, asked.zone.origin(), &asked.update)?;
+    let reply = reply_text(alloc, asker, PlanForm::Explained, asked)?;
+    text.push_str(&reply)?;
+    Ok(text)
+}
+
+/// What is printed of an update of a zone, in a form. The only error is out of memory.
+fn planned(
+    alloc: Global,
+    asker: &Asker,
+    form: PlanForm,
+    asked: ZoneUpdate,
+) -> Result<String, AllocError>
+    ensures { IfOk result (λ text. IsPlanText form (asker_in asker.now) (zone_update asked) (string_bytes text)) }
+{
+    match form {
+        PlanForm::Explained => explained(alloc, asker, asked),
+        form => reply_text(alloc, asker, form, asked),
+    }
 }
 
 /// The zone and the update of an input, whose octets are given back.
@@ -201,8 +232,8 @@ fn first_asker<R: Input, W: Sink>(
 }
 
 /// Writes what the office would answer to an update of a zone by a caller: the reply in words, as a receipt has it; and of an update that
-/// would be made the records that go, after `-`, those that come, after `+`, and the serial; and in a form the lines of the questions that a server answers otherwise then, as
-/// `do_diff` writes them. One input is the policy, and another the
+/// would be made the records that go, after `-`, those that come, after `+`, and the serial; and in forms, after it the lines of the
+/// questions that a server answers otherwise then, as `do_diff` writes them, or before it what the policy decides of each item. One input is the policy, and another the
 /// master file of the zone, a line `--` and the items. Otherwise one line tells the refusal that comes first: of the caller, that the
 /// policy is too large, of the policy; and of the other input, which is read after it, that it is too large, that it has no divider, of
 /// the master file, of its records as a zone, of the items.

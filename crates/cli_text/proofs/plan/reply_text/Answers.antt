@@ -1,10 +1,10 @@
 use Rattle.std.proofs.Common.{◌∙◌, ◌++◌, ap, option_map, subst, sym, Global}
 use Rattle.std.specs.Prelude.{string_bytes}
 use Rattle.zone_core.specs.Changes.{change_in}
-use Rattle.cli_text.specs.Plan.{asker_in, change_lines, zone_update, IsPlanText}
+use Rattle.cli_text.specs.Plan.{asker_in, change_lines, zone_update, IsReplyText}
 use Rattle.cli_text.proofs.PlanLemmas.{text_made, text_refused}
-use Rattle.cli_text.proofs.plan.planned.Goals as goal
-use Rattle.cli_text.proofs.plan.planned.Goals.{in-NoError+in_ok-push_change+in_ok-push_after, in_default}
+use Rattle.cli_text.proofs.plan.reply_text.Goals as goal
+use Rattle.cli_text.proofs.plan.reply_text.Goals.{in-NoError+in_ok-push_change+in_ok-push_after, in_default}
 
 pub returns : goal.returns
 returns c =
@@ -16,10 +16,10 @@ returns c =
     let makes = c.in_ok-reply.ensures.exact in
     elim c.match-reply-3.branch [
       | in-NoError+in_ok-push_change+in_ok-push_after w ↦
-          subst (λ t. IsPlanText c.args.form asker (zone_update c.args.asked) (string_bytes {Z = Global} t)) (sym w.text-is)
+          subst (λ t. IsReplyText c.args.form asker (zone_update c.args.asked) (string_bytes {Z = Global} t)) (sym w.text-is)
           (text_made asker zone update reply change c.args.form _ _ makes w.in-NoError.is
           (w.in_ok-push_change.ensures ∙ ap (λ bs. bs ++ change_lines change) c.in_ok-text.ensures) w.in_ok-push_after.ensures)
       | in_default w ↦
-          subst (λ t. IsPlanText c.args.form asker (zone_update c.args.asked) (string_bytes {Z = Global} t)) (sym w.text-is)
+          subst (λ t. IsReplyText c.args.form asker (zone_update c.args.asked) (string_bytes {Z = Global} t)) (sym w.text-is)
           (text_refused asker zone update reply change c.args.form _ makes w.in_default.not-NoError c.in_ok-text.ensures)
     ]
