@@ -1,7 +1,8 @@
--- What histories of calls, imports and replacements keep.
-use Rattle.std.proofs.Common.{◌≡◌, ◌∙◌, ℕ, List, [], ◌∷◌, ◌++◌, Option, Some, None, Result, Ok, Err, refl, sym, ap, subst}
+-- What histories of calls, imports, replacements and removals keep.
+use Rattle.std.proofs.Common.{◌≡◌, ◌∙◌, ℕ, Bool, cond, List, [], ◌∷◌, ◌++◌, Option, Some, None, Result, Ok, Err, refl, sym, ap, subst}
 use Rattle.std.proofs.lemmas.List.{map-append}
 use Rattle.zone_core.specs.Zones.{ZoneOf}
+use Rattle.zone_core.proofs.SetLemmas.{name_self}
 use Rattle.grant_policy.specs.declared.rule.Rule.{Rule}
 use Rattle.office_model.specs.declared.receipt.Receipt.{Receipt}
 use Rattle.office_model.specs.declared.request.Call.{Call}
@@ -13,11 +14,13 @@ use Rattle.office_core.specs.Runs.{turn}
 use Rattle.office_core.specs.Histories.{RuledCall, IsUnder, IsUpdateUnder, ruled, state_after_all}
 use Rattle.office_core.proofs.HistoryLemmas.{receipts_are_kept}
 use Rattle.store_faults.specs.declared.store_fault.StoreFault.{StoreFault}
-use Rattle.office_store.specs.Zones.{with_imported, with_replaced, with_place_taken}
+use Rattle.store_rows.specs.Removals.{without_zone}
+use Rattle.store_rows.proofs.GoneZoneLemmas.{zones_go}
+use Rattle.office_store.specs.Zones.{if_free, with_imported, with_replaced, with_place_taken}
 use Rattle.cli_core.specs.declared.job.Existing.{Existing}
 use Rattle.cli_core.specs.declared.job.Existing.TheVariants.{Kept, Replaced}
 use Rattle.cli_store.specs.Puts.{put_into, with_put}
-use Rattle.cli_store.specs.Starts.{Deed, called, put, state_after_deed, state_after_deeds, called_by, DeedsKeepReceipts, DeedsAreMadeOnce}
+use Rattle.cli_store.specs.Starts.{Deed, called, put, took, state_after_deed, state_after_deeds, called_by, DeedsKeepReceipts, DeedsAreMadeOnce, ZonesBeginAnew}
 
 -- ---- a zone that is put into a store leaves the receipts
 
@@ -42,6 +45,7 @@ put_keeps Replaced s zone = replaced_keeps s (put_into Replaced s zone)
 deed_keeps : (s : State) (deed : Deed) (caller id : List ℕ) (kept : Receipt) → s.receipts caller id ≡ Some kept → (state_after_deed s deed).receipts caller id ≡ Some kept
 deed_keeps s (called c) caller id kept there = receipts_are_kept.kept s caller id kept (c ∷ []) there
 deed_keeps s (put existing zone) caller id kept there = ap (λ (r : List ℕ → List ℕ → Option Receipt). r caller id) (put_keeps existing s zone) ∙ there
+deed_keeps s (took origin) caller id kept there = there
 
 deeds_keep : (s : State) (caller id : List ℕ) (kept : Receipt) (later : List Deed) → s.receipts caller id ≡ Some kept → (state_after_deeds s later).receipts caller id ≡ Some kept
 deeds_keep s caller id kept [] there = there
@@ -83,6 +87,15 @@ deeds_are_made_once s caller id before between first again is next =
     after_more s before (called first ∷ (between ++ called again ∷ []))
     ∙ once (state_after_deeds s before) caller id between first again is next
     ∙ sym (after_more s before (called first ∷ between))
+
+-- ---- a zone that comes after one of its origin was taken out
+
+pub zones_begin_anew : ZonesBeginAnew
+zones_begin_anew s zone =
+    let rest = without_zone s zone.origin in
+    let held : Option Held = Some (record { records = zone.records; changes = [] }) in
+    ap (λ (o : Option Held). (with_imported rest (if_free o zone)).zones zone.origin) (zones_go.found s zone.origin).gone
+    ∙ ap (λ (same : Bool). cond same held (rest.zones zone.origin)) (name_self zone.origin)
 
 -- ---- calls by one policy
 

@@ -8,13 +8,15 @@ use Rattle.sqlite_trees.specs.Objects.{catalog_tree}
 use Rattle.sqlite_trees.specs.Tree.{Trees}
 use Rattle.sqlite.specs.Effect.{Database}
 use Rattle.sqlite.specs.State.{State as Shown, HasCleanDisk}
-use Rattle.zone_core.specs.Zones.{ZoneOf}
-use Rattle.office_model.specs.States.{Held, State}
+use Rattle.zone_core.specs.Zones.{ZoneOf, serial_of}
+use Rattle.office_model.specs.States.{Held, State, zone_held}
 use Rattle.store_sql.specs.Rows.{RowsOf}
 use Rattle.store_sql.specs.Holds.{AreRows, Holds}
 use Rattle.store_sql.specs.Tables.{no_schema}
 use Rattle.store_rows.specs.Batches.{nothing_held}
 use Rattle.store_rows.specs.Contents.{ContentOf, IsContent, Means}
+use Rattle.store_rows.specs.Removals.{without_zone}
+use Rattle.store_rows.proofs.GoneZoneLemmas.{zones_go}
 use Rattle.store_rows.proofs.ListLemmas.{one_moved}
 use Rattle.store_faults.specs.StoreFaults.{IsFailure, Gives, Refuses}
 use Rattle.store_faults.specs.declared.store_fault.StoreFault.{StoreFault}
@@ -30,8 +32,10 @@ use Rattle.cli_core.specs.declared.job.Existing.{Existing}
 use Rattle.cli_core.specs.declared.job.Existing.TheVariants.{Kept, Replaced}
 use Rattle.cli_store.specs.ImportList.{Stays}
 use Rattle.cli_store.specs.Puts.{put_into, with_put}
+use Rattle.cli_store.specs.Remove.{removed_line, serial_held, removal, IsTakenOut}
 use Rattle.cli_store.specs.Stores.{IsAdopted, IsNoStore, IsMade, IsUnmade, IsMigratedTo, IsUnmigrated, IsPut}
 use Rattle.cli_store.specs.Starts.{IsBare, IsOldStateIn, HasState, held, none, old, Finds}
+use Rattle.cli_store.proofs.RemovalLemmas.{taken_fails}
 
 -- ---- tables that are listed
 
@@ -200,16 +204,6 @@ refused_stays : (existing : Existing) (s : State) (zone : ZoneOf) (refusal : Sto
 refused_stays Kept s zone refusal e = ap (with_imported s) e
 refused_stays Replaced s zone refusal e = ap (with_replaced s) e
 
-taken_fails : (refusal : StoreFault) (zone : ZoneOf) → Refuses {Y = ZoneOf} refusal (Ok zone) → IsFailure refusal
-taken_fails fault.ZoneExists zone e = absurd cc
-taken_fails fault.NoZone zone e = absurd cc
-taken_fails fault.SerialNotGreater zone e = absurd cc
-taken_fails fault.WrongVersion zone e = absurd cc
-taken_fails (fault.Store cause) zone e = tt
-taken_fails fault.BadRow zone e = absurd cc
-taken_fails (fault.Zone of) zone e = absurd cc
-taken_fails fault.NoMemory zone e = tt
-
 -- a zone that was put though a failure was told: the store could take it
 pub record WasPut (existing : Existing) (zone : ZoneOf) (s : State) (refusal : StoreFault) (next : Trees) : Type 0 where
   pub taken : put_into existing s zone ≡ Ok zone
@@ -230,4 +224,36 @@ pub put_refused : (existing : Existing) (zone : ZoneOf) (now after : Shown) (s :
 put_refused existing zone now after s next refusal put holds clean may = elim (put.0.crash s holds.0 holds.1 clean next may) [
   | inl is ↦ inl (held is)
   | inr is ↦ was_put existing zone s refusal next (put_into existing s zone) refl (put.1 clean s holds.0) is
+]
+
+-- ---- a table from which a zone is taken out
+
+-- the line tells the serial of what was held
+line_is : (origin : List (List ℕ)) (o : Option Held) (line : List ℕ) → removal origin o ≡ Ok line → (held : Held) × (o ≡ Some held) × (line ≡ removed_line origin (serial_of (zone_held origin held)))
+line_is origin None line told = absurd (cc told)
+line_is origin (Some there) line told = (there, refl, sym (cc told))
+
+pub taken_out : (origin : List (List ℕ)) (now after : Shown) (s : State) (next : Trees) (line : List ℕ) → IsTakenOut origin now after (Ok line) → HoldsState now s → HasCleanDisk after → after.may_leave next
+    → ((there : Held) × (s.zones origin ≡ Some there) × (line ≡ removed_line origin (serial_of (zone_held origin there)))) × HasState next (without_zone s origin)
+taken_out origin now after s next line takes holds clean may =
+    (line_is origin (s.zones origin) line (takes.1 clean s holds), held (leaves_one after (without_zone s origin) next (takes.0.kept clean s holds) clean may))
+
+-- a zone that was taken out though a failure was told
+pub record WasTakenOut (origin : List (List ℕ)) (s : State) (refusal : StoreFault) (next : Trees) : Type 0 where
+  pub there : Held
+  pub is : s.zones origin ≡ Some there
+  pub failed : IsFailure refusal
+  pub has : HasState next (without_zone s origin)
+
+was_taken_out : (origin : List (List ℕ)) (s : State) (refusal : StoreFault) (next : Trees) (o : Option Held) → s.zones origin ≡ o → Refuses {Y = List ℕ} refusal (removal origin o)
+    → IsStateIn next (without_zone s origin) → HasState next s ⊎ WasTakenOut origin s refusal next
+was_taken_out origin s refusal next None e refuses is = inl (held (subst (IsStateIn next) (zones_go.same s origin e) is))
+was_taken_out origin s refusal next (Some there) e refuses is =
+    inr (record { there = there; is = e; failed = taken_fails refusal (removed_line origin (serial_of (zone_held origin there))) refuses; has = held is })
+
+pub removal_refused : (origin : List (List ℕ)) (now after : Shown) (s : State) (next : Trees) (refusal : StoreFault) → IsTakenOut origin now after (Err refusal) → HoldsState now s × LeavesStates now s s
+    → HasCleanDisk after → after.may_leave next → HasState next s ⊎ WasTakenOut origin s refusal next
+removal_refused origin now after s next refusal takes holds clean may = elim (takes.0.crash s holds.0 holds.1 clean next may) [
+  | inl is ↦ inl (held is)
+  | inr is ↦ was_taken_out origin s refusal next (s.zones origin) refl (takes.1 clean s holds.0) is
 ]

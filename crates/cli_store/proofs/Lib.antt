@@ -10,6 +10,7 @@ pub mod TextExamples
 pub mod ListLemmas
 pub mod LoggedLemmas
 pub mod HistoryLemmas
+pub mod RemovalLemmas
 pub mod BlameLemmas
 pub mod StreamLemmas
 pub mod ServedLemmas

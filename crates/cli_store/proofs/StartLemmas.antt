@@ -42,6 +42,7 @@ use Rattle.cli_store.specs.ZoneFiles.{ZoneFileOf, zone_files_read}
 use Rattle.cli_store.specs.Migrate.{StoreMigrated}
 use Rattle.cli_store.specs.Program.{StoreJobEnds, JobEnds, WordsEnd, named, standard, status_of}
 use Rattle.cli_store.specs.Puts.{put_into, with_put}
+use Rattle.cli_store.specs.Remove.{removed_line, IsRemoved, ZoneRemoved}
 use Rattle.cli_store.specs.Reports.{IsReported}
 use Rattle.wire_tcp.specs.Limits.{Limits}
 use Rattle.cli_store.specs.Serve.{TableAt, policy_read, most_of, parties_of, limits_by, asked_by, IsServiceTold, IsServedBy, BeginsBy, Serves}
@@ -49,9 +50,9 @@ use Rattle.cli_store.specs.StoreList.{IsListRead, ZonesPrinted}
 use Rattle.cli_store.specs.StoreLog.{IsLogged, IsLogRead, LogPrinted}
 use Rattle.cli_store.specs.ZoneHistory.{blame_asked, blame_text, past_text, undo_text, BlamePrinted, ExportEnds, IsHistoryRead, IsToldOf, UndoPrinted}
 use Rattle.cli_store.specs.Stores.{StoresOf, IsRead, IsPut, IsUnopened, IsReached, IsUnreached, IsStored, IsGot, IsMigratedStore, stores_of}
-use Rattle.cli_store.specs.Starts.{HasState, held, Deed, put, state_after_deeds, called_by, Setting, Start, IsStart, MayFollow, AreStarts, Course, deeds_of, IsNothing, IsZoneMade, IsZoneInHand, IsZoneRefused, deeds_in, AreZonesMade, AreNoneMade, IsUnserved, moment_of, IsServed, JobMakes, IsCourse, AreCourses, history, StartsHaveOneHistory}
+use Rattle.cli_store.specs.Starts.{HasState, held, Deed, put, took, state_after_deeds, called_by, Setting, Start, IsStart, MayFollow, AreStarts, Course, deeds_of, IsNothing, IsZoneMade, IsZoneInHand, IsZoneRefused, IsZoneRemoved, IsRemovalRefused, deeds_in, AreZonesMade, AreNoneMade, IsUnserved, moment_of, IsServed, JobMakes, IsCourse, AreCourses, history, StartsHaveOneHistory}
 use Rattle.cli_store.proofs.DeedLemmas.{after_more, called_are, called_more}
-use Rattle.cli_store.proofs.DiskLemmas.{Settles, adopted_holds, made_holds, no_store, unmade, migrated, unmigrated, asked_still, left_still, stays_still, WasPut, put_made, put_refused}
+use Rattle.cli_store.proofs.DiskLemmas.{Settles, adopted_holds, made_holds, no_store, unmade, migrated, unmigrated, asked_still, left_still, stays_still, WasPut, put_made, put_refused, taken_out, WasTakenOut, removal_refused}
 use Rattle.cli_store.proofs.ListPutLemmas.{unpassed_honest}
 
 -- ---- a lifetime of a table
@@ -223,6 +224,52 @@ module _ {A F C H P : Type 0} (w : Setting A F C H P) (law : (conn : C) → Sett
         was.has,
       )
     ]
+
+    -- ---- a zone that is taken out
+
+    abbrev Removals : List ℕ → Result (Unit {0}) JobFault → Course → Type 0
+    Removals word outcome c = IsZoneRemoved word s st.output outcome c ⊎ IsRemovalRefused word s st.output outcome c
+
+    -- nothing was taken out
+    not_removed : (word : List ℕ) (outcome : Result (Unit {0}) JobFault) (fault : LineFault) → IsReported (Err fault) st.output.old st.output.new outcome st.output.before st.output.after
+        → HasState next s → Comes (Removals word outcome) s next
+    not_removed word outcome fault line same = (nothing, inr (record { fault = fault; line = line; told = refl; hand = inl refl }), same)
+
+    removed : (path word : List ℕ) (outcome : Result (Unit {0}) JobFault) (made : Result (List ℕ) LineFault)
+        → IsRemoved w.shows word (w.finds st.files path) (w.refuses st.files path) (w.connects st.files path) st.left made
+        → IsReported made st.output.old st.output.new outcome st.output.before st.output.after → Comes (Removals word outcome) s next
+    removed path word outcome (Ok line) (origin, read, (now, (found, connected, adopted), (after, e, takes))) line_is =
+        let here = adopted_holds db (w.shows found) (is.found path found connected) (law found) (w.shows now) s adopted (takes.0.honest (clean after e)) has in
+        let gone = taken_out origin (w.shows now) (w.shows after) s next line takes here.0 (clean after e) (follows after e) in (
+          record { told = took origin ∷ []; hand = [] },
+          inl (record {
+            origin = origin;
+            read = read;
+            held = gone.0.0;
+            there = gone.0.1;
+            line = subst (λ (l : List ℕ). IsReported (Ok l) st.output.old st.output.new outcome st.output.before st.output.after) gone.0.2 line_is;
+            told = refl;
+            hand = refl;
+          }),
+          gone.1,
+        )
+    removed path word outcome (Err fault) (inl (given, none)) line_is = not_removed word outcome fault line_is (unread none)
+    removed path word outcome (Err fault) (inr (origin, read, (refusal, fault_is, inl refused))) line_is = not_removed word outcome fault line_is (unopened path refusal refused)
+    removed path word outcome (Err fault) (inr (origin, read, (refusal, fault_is, inr (now, (found, connected, adopted), (after, e, takes))))) line_is =
+        let here = adopted_holds db (w.shows found) (is.found path found connected) (law found) (w.shows now) s adopted (takes.0.honest (clean after e)) has in
+        elim (removal_refused origin (w.shows now) (w.shows after) s next refusal takes here (clean after e) (follows after e)) [
+          | inl same ↦ not_removed word outcome fault line_is same
+          | inr was ↦ (
+            record { told = []; hand = took origin ∷ [] },
+            inr (record {
+              fault = fault;
+              line = line_is;
+              told = refl;
+              hand = inr (record { origin = origin; read = read; held = was.there; there = was.is; refusal = refusal; failed = was.failed; fault_is = fault_is; hand_is = refl });
+            }),
+            was.has,
+          )
+        ]
 
     -- ---- a list of zones
 
@@ -456,6 +503,8 @@ module _ {A F C H P : Type 0} (w : Setting A F C H P) (law : (conn : C) → Sett
     stored_job (store_job.Undo words) status (idle, unread, (outcome, (made, is_made, told), status_is)) =
         stays s next (told_of words.zone.store.now (of_names (absolute_name words.zone.origin.now)) (λ origin. origin) (undo_text words.first words.last) made is_made)
     stored_job (store_job.Migrate words) status (idle, unread, (outcome, (written, (made, is_made, told)), status_is)) = stays s next (migrates words.store.now made is_made)
+    stored_job (store_job.Remove words) status (idle, unread, (outcome, (written, (made, is_made, told)), status_is)) =
+        comes_so s next (λ c all. (outcome, all, status_is)) (removed words.zone.store.now words.zone.origin.now outcome made is_made told)
     stored_job (store_job.Serve service) status (unread, (outcome, is_served, status_is)) = comes_so s next (λ c all. (outcome, all, status_is)) (serves service outcome is_served)
 
     any_job : (asked : Job) (status : ℕ) → JobEnds (w.around st.around) w.callers Stores st.input st.output st.trace asked st.left status → Comes (Makings asked status) s next

@@ -7,6 +7,7 @@ pub mod ZoneFiles
 pub mod ImportList
 pub mod Export
 pub mod Migrate
+pub mod Remove
 pub mod Log
 pub mod ZoneList
 pub mod StoreLog

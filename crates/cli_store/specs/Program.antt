@@ -55,6 +55,7 @@ use Rattle.cli_store.specs.Import.{ImportWritten, ZoneStored}
 use Rattle.cli_store.specs.ImportList.{ListImported}
 use Rattle.cli_store.specs.ZoneHistory.{BlamePrinted, ExportEnds, UndoPrinted}
 use Rattle.cli_store.specs.Migrate.{MigrationWritten, StoreMigrated}
+use Rattle.cli_store.specs.Remove.{RemovalWritten, ZoneRemoved}
 use Rattle.cli_store.specs.StoreList.{ZonesPrinted}
 use Rattle.cli_store.specs.StoreLog.{LogPrinted}
 use Rattle.cli_store.specs.Serve.{Serves}
@@ -240,6 +241,10 @@ StoreJobEnds a p s i o t (store_job.Undo w) left status =
 StoreJobEnds a p s i o t (store_job.Migrate w) left status =
     IsIdle t × IsUnread i
     × Ends (λ outcome. MigrationWritten o.old o.new outcome o.before o.after × StoreMigrated s w.store.now left o.old o.new outcome o.before o.after) status
+StoreJobEnds a p s i o t (store_job.Remove w) left status =
+    IsIdle t × IsUnread i
+    × Ends (λ outcome. RemovalWritten w.zone.origin.now o.old o.new outcome o.before o.after
+    × ZoneRemoved s w.zone.store.now w.zone.origin.now left o.old o.new outcome o.before o.after) status
 StoreJobEnds a p s i o t (store_job.Serve service) left status =
     IsUnread i × Ends (λ outcome. Serves a p s service left o outcome t) status
 

@@ -9,11 +9,12 @@ use Rattle.sqlite_trees.specs.Objects.{catalog_tree}
 use Rattle.sqlite_trees.specs.Tree.{Trees}
 use Rattle.sqlite.specs.Effect.{IsDatabase}
 use Rattle.sqlite.specs.State.{State as Shown, HasCleanDisk}
-use Rattle.zone_core.specs.Zones.{ZoneOf}
+use Rattle.dns_names.specs.Reading.{absolute_name}
+use Rattle.zone_core.specs.Zones.{ZoneOf, serial_of}
 use Rattle.grant_policy.specs.declared.rule.Rule.{Rule}
 use Rattle.office_model.specs.declared.receipt.Receipt.{Receipt}
 use Rattle.office_model.specs.declared.request.Call.{Call}
-use Rattle.office_model.specs.States.{State}
+use Rattle.office_model.specs.States.{Held, State, zone_held}
 use Rattle.office_model.specs.Tables.{Kept}
 use Rattle.office_core.specs.Runs.{turn}
 use Rattle.office_core.specs.Histories.{RuledCall, IsUpdateUnder, ruled}
@@ -22,6 +23,7 @@ use Rattle.store_sql.specs.Holds.{AreRows, SameRows}
 use Rattle.store_sql.specs.Tables.{no_schema}
 use Rattle.store_rows.specs.Batches.{nothing_held}
 use Rattle.store_rows.specs.Contents.{ContentOf, Means, rows_of}
+use Rattle.store_rows.specs.Removals.{without_zone}
 use Rattle.store_faults.specs.StoreFaults.{IsFailure}
 use Rattle.store_faults.specs.declared.store_fault.StoreFault.{StoreFault}
 use Rattle.office_store.specs.Holds.{IsStateIn}
@@ -32,12 +34,13 @@ use Rattle.office_wire.specs.Lifetimes.{IsHand}
 use Rattle.cli_core.specs.Commands.{office}
 use Rattle.cli_core.specs.Device.{AppendsFront}
 use Rattle.cli_core.specs.Jobs.{asks}
-use Rattle.cli_core.specs.LineFaults.{Makes, of_store}
+use Rattle.cli_core.specs.LineFaults.{Makes, of_names, of_store}
 use Rattle.cli_core.specs.Misuse.{IsReported as IsMisuse}
 use Rattle.cli_core.specs.Replies.{IsRefusalWritten}
 use Rattle.cli_core.specs.Words.{job_of}
 use Rattle.cli_core.specs.declared.commands.serve.Service.{Service}
 use Rattle.cli_core.specs.declared.job.Existing.{Existing}
+use Rattle.cli_core.specs.declared.job.Existing.TheVariants.{Kept as Beside}
 use Rattle.cli_core.specs.declared.job.Job.{Job}
 use Rattle.cli_core.specs.declared.job.Job.TheVariants as job
 use Rattle.cli_core.specs.declared.job.StoreJob.{StoreJob}
@@ -53,6 +56,7 @@ use Rattle.cli_store.specs.Import.{imported_line}
 use Rattle.cli_store.specs.ImportList.{Passed, stayed, came, ArePassed, AreAllTold, IsStopTold, TakesAll, states_passed}
 use Rattle.cli_store.specs.Program.{Reading, Ends, IsIdle, OfInput, WordsEnd}
 use Rattle.cli_store.specs.Puts.{put_into, with_put}
+use Rattle.cli_store.specs.Remove.{removed_line}
 use Rattle.cli_store.specs.Reports.{IsReported}
 use Rattle.cli_store.specs.Serve.{TableAt, policy_read, most_of, listening_line, IsHeard, limits_by, parties_of}
 use Rattle.cli_store.specs.Stores.{stores_of}
@@ -94,15 +98,18 @@ pub record Finds (db : Trees) (conn : Shown) : Type 0 where
 
 -- ---- the history of a store
 
--- a call that was made, by the rules of its time; or a zone that was put into the store
+-- a call that was made, by the rules of its time; a zone that was put into the store; or the zone of an origin that was taken out of it
 pub data Deed : Type 0 where
   called : RuledCall → Deed
   put : Existing → ZoneOf → Deed
+  took : List (List ℕ) → Deed
 
--- The state after it. A zone that is imported begins with no changes, and one that is replaced gets one; receipts stay.
+-- The state after it. A zone that is imported begins with no changes, and one that is replaced gets one; one that is taken out goes with its
+-- changes; receipts stay.
 abbrev pub state_after_deed : State → Deed → State
 state_after_deed s (called c) = (turn c.rules s c.call).after
 state_after_deed s (put existing zone) = with_put existing s zone
+state_after_deed s (took origin) = without_zone s origin
 
 abbrev pub state_after_deeds : State → List Deed → State
 state_after_deeds s [] = s
@@ -119,12 +126,18 @@ pub record DeedsKeepReceipts : Type 0 where
   pub kept : (s : State) (caller id : List ℕ) (kept : Receipt) (later : List Deed) → s.receipts caller id ≡ Some kept
       → (state_after_deeds s later).receipts caller id ≡ Some kept
 
--- Of the updates of a caller under one identifier only the first changes anything, whatever is called, imported and replaced before,
--- between and after, and by whatever rules.
+-- Of the updates of a caller under one identifier only the first changes anything, whatever is called, imported, replaced and taken out
+-- before, between and after, and by whatever rules.
 abbrev pub DeedsAreMadeOnce : Type 0
 DeedsAreMadeOnce =
     (s : State) (caller id : List ℕ) (before between : List Deed) (first again : RuledCall) → IsUpdateUnder caller id first → IsUpdateUnder caller id again
     → state_after_deeds s (before ++ called first ∷ (between ++ called again ∷ [])) ≡ state_after_deeds s (before ++ called first ∷ between)
+
+-- A zone that is imported where one of its origin was taken out begins anew: with its records, and no changes.
+abbrev pub ZonesBeginAnew : Type 0
+ZonesBeginAnew =
+    (s : State) (zone : ZoneOf)
+    → (state_after_deeds s (took zone.origin ∷ put Beside zone ∷ [])).zones zone.origin ≡ Some (record { records = zone.records; changes = [] })
 
 -- ---- a start
 
@@ -206,6 +219,35 @@ pub record IsZoneRefused (origin : List ℕ) (existing : Existing) (s : State) (
   pub told : c.told ≡ []
   pub hand : (c.hand ≡ []) ⊎ IsZoneInHand origin existing s i.left fault c.hand
 
+-- A removal took out the zone that was held of the origin, and its line was written, with the serial that it had, if the writer did not
+-- fail.
+pub record IsZoneRemoved (word : List ℕ) (s : State) (o : Writing) (outcome : Result (Unit {0}) JobFault) (c : Course) : Type 0 where
+  pub origin : List (List ℕ)
+  pub read : of_names (absolute_name word) ≡ Ok origin
+  pub held : Held
+  pub there : s.zones origin ≡ Some held
+  pub line : IsReported (Ok (removed_line origin (serial_of (zone_held origin held)))) o.old o.new outcome o.before o.after
+  pub told : c.told ≡ took origin ∷ []
+  pub hand : c.hand ≡ []
+
+-- The zone that was held of the origin was taken out, though a failure was told.
+pub record IsRemovalInHand (word : List ℕ) (s : State) (fault : LineFault) (hand : List Deed) : Type 0 where
+  pub origin : List (List ℕ)
+  pub read : of_names (absolute_name word) ≡ Ok origin
+  pub held : Held
+  pub there : s.zones origin ≡ Some held
+  pub refusal : StoreFault
+  pub failed : IsFailure refusal
+  pub fault_is : fault ≡ of_store refusal
+  pub hand_is : hand ≡ took origin ∷ []
+
+-- A removal was refused, and nothing was taken out, or the zone in hand, where the store failed.
+pub record IsRemovalRefused (word : List ℕ) (s : State) (o : Writing) (outcome : Result (Unit {0}) JobFault) (c : Course) : Type 0 where
+  pub fault : LineFault
+  pub line : IsReported (Err fault) o.old o.new outcome o.before o.after
+  pub told : c.told ≡ []
+  pub hand : (c.hand ≡ []) ⊎ IsRemovalInHand word s fault c.hand
+
 -- the zones that came, as deeds
 abbrev pub deeds_in : Existing → List Passed → List Deed
 deeds_in existing [] = []
@@ -263,13 +305,15 @@ pub record IsServed {C H P : Type 0} (shows : C → Shown) (a : Around H) (p : C
   pub hand_is : c.hand ≡ called_by rules hand
 
 -- What is around, who calls, what connections show, the state on the disk, the streams, the job, its status, and what came of it: only an
--- import, of a zone or of a list, and a service make anything.
+-- import, of a zone or of a list, a removal and a service make anything.
 abbrev pub JobMakes : {C H P : Type 0} → (C → Shown) → Around H → Callers H P → State → Reading → Writing → Writing → Job → ℕ → Course → Type 0
 JobMakes shows a p s i o t (job.Store (store_job.Import w)) status c =
     Ends (λ outcome. IsZoneMade w.zone.origin.now w.existing s i o outcome c ⊎ IsZoneRefused w.zone.origin.now w.existing s i o outcome c) status
 JobMakes shows a p s i o t (job.Store (store_job.ImportList w)) status c =
     OfInput a i w.list.now (λ list. Ends (λ outcome. AreNoneMade o outcome c
     ⊎ ((zones : List ZoneFileOf) × Makes list.left zone_files_read (Ok zones) × AreZonesMade a w.existing s zones o outcome c)) status)
+JobMakes shows a p s i o t (job.Store (store_job.Remove w)) status c =
+    Ends (λ outcome. IsZoneRemoved w.zone.origin.now s o outcome c ⊎ IsRemovalRefused w.zone.origin.now s o outcome c) status
 JobMakes shows a p s i o t (job.Store (store_job.Serve service)) status c =
     Ends (λ outcome. (IsUnserved o t outcome × IsNothing c) ⊎ IsServed shows a p service s o t outcome c) status
 JobMakes shows a p s i o t asked status c = IsNothing c
@@ -291,9 +335,9 @@ abbrev pub history : List Course → List Deed
 history courses = flat_map deeds_of courses
 
 -- From a state on the disk, however often the program is started there, whatever its words are, and however each start ends: there is one
--- history of all calls that were answered on any connection, of all zones that were imported or replaced, and of at most one call or zone
--- for each start of which a failure was told. Each answer is that of the machine at its place in the history, which leads to the state that
--- is on the disk.
+-- history of all calls that were answered on any connection, of all zones that were imported, replaced or taken out, and of at most one
+-- call or zone for each start of which a failure was told. Each answer is that of the machine at its place in the history, which leads to the
+-- state that is on the disk.
 abbrev pub StartsHaveOneHistory : {A F C H P : Type 0} → Setting A F C H P → Type 0
 StartsHaveOneHistory {A} {F} {C} w =
     (s : State) (db end : Trees) (starts : List (Start A F C)) → HasState db s → AreStarts w db starts end

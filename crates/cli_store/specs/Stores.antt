@@ -160,7 +160,8 @@ IsStored {C} shows finds refuses connects existing zone left (Err fault) =
     IsUnreached shows finds refuses connects existing left fault
     ⊎ ((now : C) × IsReached shows connects existing now × IsLeft left (λ after. IsPut existing zone (shows now) (shows after) (Err fault)))
 
--- something is read from the store of the path, once that is opened: what is read, by what the connection showed before and after
+-- something is read from the store of the path, or taken out of it, once that is opened: what it is, by what the connection showed before
+-- and after
 abbrev pub IsGot : {C X : Type 0} → (C → Shown) → (Bool → Type 0) → (StoreFault → Type 0) → (C → Type 0) → (Shown → Shown → Result X StoreFault → Type 0) → Option C → Result X StoreFault → Type 0
 IsGot {C} {X} shows finds refuses connects got left (Ok x) =
     (now : C) × IsOpened shows connects now × IsLeft left (λ after. got (shows now) (shows after) (Ok x))

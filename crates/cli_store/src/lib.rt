@@ -1,5 +1,5 @@
-//! The commands that need a store: to put a zone into it, to print one as it is or was, with its changes and what undoes
-//! them, to migrate it, and to serve callers.
+//! The commands that need a store: to put a zone into it and take one out, to print one as it is or was, with its changes and what
+//! undoes them, to migrate it, and to serve callers.
 #![tactic(auto)]
 
 mod beginning;
@@ -16,6 +16,7 @@ mod log_choice;
 mod migration;
 mod past_zone;
 mod program;
+mod removal;
 mod service;
 mod start_laws;
 mod store_file;
@@ -43,6 +44,7 @@ pub use listening::{CountedListener, Socket, heard, listen_at};
 pub use migration::migrate;
 pub use past_zone::export_at;
 pub use program::{do_job, do_store_job, do_text_job, do_words};
+pub use removal::remove;
 pub use service::{listening_at, serve};
 pub use start_laws::starts_have_one_history;
 pub use store_list::list_zones;

@@ -12,6 +12,7 @@ use crate::files::StoreFiles;
 use crate::import_list::import_all;
 use crate::migration::migrate;
 use crate::past_zone::export_by;
+use crate::removal::remove;
 use crate::service::serve;
 use crate::store_list::list_zones;
 use crate::store_log::log;
@@ -533,6 +534,7 @@ fn done<M: Surroundings, S: Alter + Drop, P: StoreFiles<S> + Drop, R: Source, W:
         StoreJob::Blame(words) => blame(alloc, files, words.zone, words.name, output),
         StoreJob::Undo(words) => undo(alloc, files, words, output),
         StoreJob::Migrate(words) => migrate(alloc, files, words.store, output),
+        StoreJob::Remove(words) => remove(alloc, files, words.zone, output),
         StoreJob::Serve(service) => serve(around, files, service, output, trace),
     }
 }

@@ -36,5 +36,8 @@ returns-in-Undo g c = rw c.in-Undo.is ((refl, refl), (refl, refl), (_, c.undo.en
 pub returns-in-Migrate : goal.returns-in-Migrate
 returns-in-Migrate g c = rw c.in-Migrate.is ((refl, refl), (refl, refl), (_, (c.migrate.ensures.written, c.migrate.ensures.migrated), refl))
 
+pub returns-in-Remove : goal.returns-in-Remove
+returns-in-Remove g c = rw c.in-Remove.is ((refl, refl), (refl, refl), (_, (c.remove.ensures.written, c.remove.ensures.removed), refl))
+
 pub returns-in-Serve : goal.returns-in-Serve
 returns-in-Serve g c = rw c.in-Serve.is ((refl, refl), (_, c.serve.ensures, refl))

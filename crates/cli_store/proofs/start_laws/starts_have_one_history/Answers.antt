@@ -18,3 +18,6 @@ returns-clause-kept g c = deeds.deeds_keep_receipts
 
 pub returns-clause-once : goal.returns-clause-once
 returns-clause-once g c = deeds.deeds_are_made_once
+
+pub returns-clause-anew : goal.returns-clause-anew
+returns-clause-anew g c = deeds.zones_begin_anew
