@@ -132,11 +132,16 @@ fn push_inquiry(words: &Answer<'_>, answer: &mut Vec<u8>) -> Result<(), AllocErr
     push_all(&[text_form(words.form)], answer)
 }
 
+/// Appends texts, and a word, if one is given.
+fn push_with(texts: &[&str], given: Option<&str>, answer: &mut Vec<u8>) -> Result<(), AllocError> {
+    push_all(texts, answer)?;
+    push_if_given(given, answer)
+}
+
 fn push_check(alloc: Global, words: &Check<'_>, answer: &mut Vec<u8>) -> Result<(), AllocError> {
     match words {
         Check::Policy { policy, against } => {
-            push_all(&["check policy (", policy, ")"], answer)?;
-            push_if_given(*against, answer)
+            push_with(&["check policy (", policy, ")"], *against, answer)
         }
         Check::PolicyZones {
             policy,
@@ -147,28 +152,22 @@ fn push_check(alloc: Global, words: &Check<'_>, answer: &mut Vec<u8>) -> Result<
             push_named(" reader", *reader, answer)
         }
         Check::Expect { policy, file } => {
-            push_all(&["check expect (", policy, ")"], answer)?;
-            push_if_given(*file, answer)
+            push_with(&["check expect (", policy, ")"], *file, answer)
         }
-        Check::Isolation { policy, caller } => push_all(
-            &["check isolation (", policy, ") (", caller, ")"],
-            answer,
-        ),
+        Check::Isolation { policy, caller } => {
+            push_all(&["check isolation (", policy, ") (", caller, ")"], answer)
+        }
         Check::Reach {
             policy,
             caller,
             origin,
             file,
         } => {
-            push_all(
-                &["check reach (", policy, ") (", caller, ") (", origin, ")"],
-                answer,
-            )?;
-            push_if_given(*file, answer)
+            let texts = ["check reach (", policy, ") (", caller, ") (", origin, ")"];
+            push_with(&texts, *file, answer)
         }
         Check::Rights { policy, name } => {
-            push_all(&["check rights (", policy, ")"], answer)?;
-            push_if_given(*name, answer)
+            push_with(&["check rights (", policy, ")"], *name, answer)
         }
         Check::Zone { origin, rules } => {
             push_all(&["check zone (", origin, ")"], answer)?;

@@ -21,6 +21,7 @@ fn group_text(rt: &HostRuntime, names: &ReachedNames) -> io::Result<String> {
     Ok(text)
 }
 
+/// Prints the line of a row.
 pub fn print_row(rt: &HostRuntime, row: &ReachedAnswers) -> io::Result<()> {
     let mut line = group_text(rt, &row.names)?;
     if row.types.len() == QueryType::ALL.len() {
