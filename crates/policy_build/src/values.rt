@@ -1,6 +1,7 @@
 //! The values of a file of groups.
 
-ghost use Rattle.std.specs.Prelude.{◌≡◌, Result, List, ℕ, option_map, codes};
+ghost use Rattle.std.specs.Prelude.{◌≡◌, ◌==◌, Result, List, ℕ, option_map, position, codes};
+ghost use Rattle.std.specs.List.{list_any};
 ghost use Rattle.toml.specs.Data.{Data};
 ghost use Rattle.toml.specs.View.{view};
 ghost use Rattle.policy_build.specs.declared.build_fault.BuildFault.{BuildFault as FaultOf};
@@ -113,16 +114,28 @@ fn name(alloc: Global, place: Place, text: &[u8]) -> Result<Name, BuildFault>
     }
 }
 
+/// Where the first space of a text is.
+fn space_in(text: &[u8]) -> Option<usize>
+    ensures { result ≡ position (λ octet. octet == 32) text.now }
+{
+    text.iter().position(|octet| *octet == b' ')
+}
+
+/// Whether a text has a space.
+fn has_space(text: &[u8]) -> bool
+    ensures { result ≡ list_any (λ octet. octet == 32) text.now }
+{
+    text.iter().any(|octet| *octet == b' ')
+}
+
 /// What is before and after the only space of a text.
 fn cut_at_space(text: &[u8]) -> Option<(&[u8], &[u8])>
     ensures { option_map (λ parts. (parts.0.now, parts.1.now)) result ≡ cut text.now }
 {
-    let space = text.iter().position(|octet| *octet == b' ')?;
-    let rest = &text[space + 1..];
-    if rest.contains(&b' ') {
-        return None;
+    match space_in(text) {
+        Some(space) if !has_space(&text[space + 1..]) => Some((&text[..space], &text[space + 1..])),
+        _ => None,
     }
-    Some((&text[..space], rest))
 }
 
 impl FromText for Names {
