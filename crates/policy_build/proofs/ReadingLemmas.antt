@@ -9,12 +9,12 @@ use Rattle.toml.specs.Data.{Data, string, integer, float, boolean, datetime, arr
 use Rattle.toml.specs.View.{view, items_view, members_view}
 use Rattle.grant_policy.proofs.ReadLemmas.{item_here}
 use Rattle.policy_build.specs.declared.build_fault.BuildFault.{BuildFault}
-use Rattle.policy_build.specs.declared.build_fault.BuildFault.TheVariants.{Empty}
+use Rattle.policy_build.specs.declared.build_fault.BuildFault.TheVariants.{Empty, UnknownKey}
 use Rattle.policy_build.specs.declared.place.FileKey.{FileKey}
 use Rattle.policy_build.specs.declared.place.Place.{Place}
 use Rattle.policy_build.specs.Faults.{◌>>=◌}
 use Rattle.policy_build.specs.Places.{key_text, nth_of}
-use Rattle.policy_build.specs.Reading.{has_only, is_text, items_from, list_of, list_unless, one_of}
+use Rattle.policy_build.specs.Reading.{has_only, is_text, known_keys, items_from, list_of, list_unless, one_of}
 use Rattle.policy_build.proofs.LoopLemmas.{bind_step}
 use Rattle.policy_build.proofs.ResolvingLaws.{bind_ok, same_Ok, not_Err}
 
@@ -134,3 +134,10 @@ module _ {X : Type 0} (word : List ℕ) (read : Place → Data → Result X Buil
 pub keys_tell : (known : List FileKey) (es : List (String Global × Value)) → list_all (λ k. list_any (λ one. bytes_eq (key_text one) (string_bytes k)) known) (keys_of es) ≡ has_only known (members_view es)
 keys_tell known [] = refl
 keys_tell known (e ∷ es) = rw (keys_tell known es) refl
+
+module _ (known : List FileKey) (place : Place) (es : List (String Global × Value)) where
+  pub keys_known : list_all (λ k. list_any (λ one. bytes_eq (key_text one) (string_bytes k)) known) (keys_of es) ≡ true → known_keys known place (members_view es) ≡ Ok tt
+  keys_known all = ap (λ b. cond b (Ok tt) (Err (UnknownKey place))) (sym (keys_tell known es) ∙ all)
+
+  pub keys_unknown : list_all (λ k. list_any (λ one. bytes_eq (key_text one) (string_bytes k)) known) (keys_of es) ≡ false → known_keys known place (members_view es) ≡ Err (UnknownKey place)
+  keys_unknown other = ap (λ b. cond b (Ok tt) (Err (UnknownKey place))) (sym (keys_tell known es) ∙ other)

@@ -111,7 +111,7 @@ pub(crate) fn optional_list_at<T: FromToml>(
     table: &Table,
     key: FileKey,
 ) -> Result<Vec<T>, BuildFault>
-    ensures { Reads (λ items. items.items) result (optional_of (list_of T.read_of) place key (table_view table.now)) }
+    ensures { Reads (λ items. items.items) result (optional_of T.read_of place key (table_view table.now)) }
 {
     match table.get(key.text()) {
         Some(value) => list(alloc, place.at(key), value),
