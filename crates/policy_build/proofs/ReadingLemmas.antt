@@ -1,20 +1,21 @@
 -- What is read item by item, and its refusals.
 use Rattle.std.proofs.Common.{◌≡◌, ℕ, zero, suc, ◌+◌, ◌<◌, ◌≤◌, Bool, true, false, ◌&&◌, cond, List, [], ◌∷◌, ◌++◌, length, length-append, drop, get_or, Option, Some, None, Result, Ok, Err, String, Global, string_bytes, refl, sym, ap, ◌∙◌, subst, arith}
-use Rattle.std.specs.Prelude.{bytes_eq}
+use Rattle.std.specs.Prelude.{bytes_eq, codes, is_some, option_map}
 use Rattle.std.specs.List.{list_any, list_all}
 use Rattle.std.specs.Map.{keys_of}
 use Rattle.std.proofs.lemmas.List.{drop_all}
 use Rattle.toml.specs.declared.value.Value.{Value}
-use Rattle.toml.specs.Data.{Data, string, integer, float, boolean, datetime, array, table, Items, no_items, item, as_str, as_array}
+use Rattle.toml.specs.Data.{Data, string, integer, float, boolean, datetime, array, table, Items, no_items, item, Members, as_str, as_array, get_member}
 use Rattle.toml.specs.View.{view, items_view, members_view}
 use Rattle.grant_policy.proofs.ReadLemmas.{item_here}
 use Rattle.policy_build.specs.declared.build_fault.BuildFault.{BuildFault}
 use Rattle.policy_build.specs.declared.build_fault.BuildFault.TheVariants.{Empty, UnknownKey}
 use Rattle.policy_build.specs.declared.place.FileKey.{FileKey}
 use Rattle.policy_build.specs.declared.place.Place.{Place}
-use Rattle.policy_build.specs.Faults.{◌>>=◌}
+use Rattle.policy_build.specs.declared.statement.Statement.{Statement}
+use Rattle.policy_build.specs.Faults.{Reads, ◌>>=◌}
 use Rattle.policy_build.specs.Places.{key_text, nth_of}
-use Rattle.policy_build.specs.Reading.{has_only, is_text, known_keys, items_from, list_of, list_unless, one_of}
+use Rattle.policy_build.specs.Reading.{has_only, is_text, known_keys, items_from, list_of, list_unless, one_of, rule_statement_in, statement_in, use_statement_in}
 use Rattle.policy_build.proofs.LoopLemmas.{bind_step}
 use Rattle.policy_build.proofs.ResolvingLaws.{bind_ok, same_Ok, not_Err}
 
@@ -141,3 +142,15 @@ module _ (known : List FileKey) (place : Place) (es : List (String Global × Val
 
   pub keys_unknown : list_all (λ k. list_any (λ one. bytes_eq (key_text one) (string_bytes k)) known) (keys_of es) ≡ false → known_keys known place (members_view es) ≡ Err (UnknownKey place)
   keys_unknown other = ap (λ b. cond b (Ok tt) (Err (UnknownKey place))) (sym (keys_tell known es) ∙ other)
+
+-- ---- statements
+
+module _ {V : Type 0} (view_of : V → Data) (found : Option V) (place : Place) (ms : Members) (same : option_map view_of found ≡ get_member (codes "template") ms) where
+  stated : statement_in place ms ≡ cond (is_some (option_map view_of found)) (use_statement_in place ms) (rule_statement_in place ms)
+  stated = ap (λ m. cond (is_some m) (use_statement_in place ms) (rule_statement_in place ms)) (sym same)
+
+  pub stated_use : (v : V) (r : Result Statement BuildFault) → found ≡ Some v → Reads (λ s. s) r (use_statement_in place ms) → Reads (λ s. s) r (statement_in place ms)
+  stated_use v r is reads = subst (Reads (λ (s : Statement). s) r) (sym (stated ∙ ap (λ o. cond (is_some (option_map view_of o)) (use_statement_in place ms) (rule_statement_in place ms)) is)) reads
+
+  pub stated_rule : (r : Result Statement BuildFault) → found ≡ None → Reads (λ s. s) r (rule_statement_in place ms) → Reads (λ s. s) r (statement_in place ms)
+  stated_rule r is reads = subst (Reads (λ (s : Statement). s) r) (sym (stated ∙ ap (λ o. cond (is_some (option_map view_of o)) (use_statement_in place ms) (rule_statement_in place ms)) is)) reads

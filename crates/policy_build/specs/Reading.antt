@@ -200,12 +200,19 @@ plain_rule rule = do
   names ← has_list rule.place key.Names rule.names
   Ok rule
 
+-- a use, or a rule for groups, as a statement
+abbrev pub use_statement_in : Place → Members → Result Statement BuildFault
+use_statement_in place ms = use_in place ms >>= λ usage. Ok (statement.Use usage)
+
+abbrev pub rule_statement_in : Place → Members → Result Statement BuildFault
+rule_statement_in place ms = do
+  rule ← rule_in place ms
+  plain ← plain_rule rule
+  Ok (statement.Rule plain)
+
 -- a rule for groups, or where the table has a template its use
 abbrev pub statement_in : Place → Members → Result Statement BuildFault
-statement_in place ms =
-    if is_some (get_member (codes "template") ms)
-    then (use_in place ms >>= λ usage. Ok (statement.Use usage))
-    else (rule_in place ms >>= λ rule. plain_rule rule >>= λ plain. Ok (statement.Rule plain))
+statement_in place ms = if is_some (get_member (codes "template") ms) then use_statement_in place ms else rule_statement_in place ms
 
 -- ---- documents
 

@@ -4,7 +4,7 @@ ghost use Rattle.std.specs.Prelude.{◌≡◌, ◌⊎◌, Some, None, MatchResul
 ghost use Rattle.toml.specs.View.{view, table_view};
 ghost use Rattle.grant_policy.specs.Documents.{document_of};
 ghost use Rattle.policy_build.specs.Faults.{Reads};
-ghost use Rattle.policy_build.specs.Reading.{group_in, rule_in, template_in, use_in, statement_in, plain_rule, source_in, source_of};
+ghost use Rattle.policy_build.specs.Reading.{group_in, rule_in, template_in, use_in, use_statement_in, rule_statement_in, statement_in, plain_rule, source_in, source_of};
 
 use crate::build_fault::BuildFault;
 use crate::from_toml::{FromToml, at_key, check_keys, list_at, optional_list_at, table_at};
@@ -125,16 +125,28 @@ fn without_parameters(rule: GroupRule) -> Result<GroupRule, BuildFault>
     Ok(rule)
 }
 
+/// The use of a template of a table, as a statement.
+fn use_statement(alloc: Global, place: Place, table: &Table) -> Result<Statement, BuildFault>
+    ensures { Reads (λ statement. statement) result (use_statement_in place (table_view table.now)) }
+{
+    Ok(Statement::Use(template_use(alloc, place, table)?))
+}
+
+/// The rule for groups of a table, as a statement.
+fn rule_statement(alloc: Global, place: Place, table: &Table) -> Result<Statement, BuildFault>
+    ensures { Reads (λ statement. statement) result (rule_statement_in place (table_view table.now)) }
+{
+    let rule = group_rule(alloc, place, table)?;
+    Ok(Statement::Rule(without_parameters(rule)?))
+}
+
 /// The rule for groups or the use of a template of a table.
 fn statement(alloc: Global, place: Place, table: &Table) -> Result<Statement, BuildFault>
     ensures { Reads (λ statement. statement) result (statement_in place (table_view table.now)) }
 {
     match table.get("template") {
-        Some(_) => Ok(Statement::Use(template_use(alloc, place, table)?)),
-        None => {
-            let rule = group_rule(alloc, place, table)?;
-            Ok(Statement::Rule(without_parameters(rule)?))
-        }
+        Some(_) => use_statement(alloc, place, table),
+        None => rule_statement(alloc, place, table),
     }
 }
 
