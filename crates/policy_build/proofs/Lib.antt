@@ -3,3 +3,4 @@ pub mod MakingLaws
 pub mod LoopLemmas
 pub mod ReadingLemmas
 pub mod PrintingLemmas
+pub mod SelectionLaws

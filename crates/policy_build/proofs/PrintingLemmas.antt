@@ -1,6 +1,6 @@
 -- The tables that rules are printed as spell them.
 use Rattle.std.proofs.Common.{◌≡◌, ◌⊎◌, inl, inr, ℕ, zero, suc, ◌+◌, ◌<◌, ◌≤◌, max, List, [], ◌∷◌, ◌++◌, length, map, take, get_or, Option, Some, None, Result, Ok, Err, Ordering, Less, Equal, Greater, String, Global, string_bytes, refl, sym, ap, ◌∙◌, subst, codes, arith}
-use Rattle.std.specs.List.{Contains}
+use Rattle.std.specs.List.{All, Contains}
 use Rattle.std.specs.BTreeMap.{insert_entry}
 use Rattle.std.specs.Ordering.{nat_cmp, match_ordering}
 use Rattle.std.specs.Cmp.Lexicographic.{slice_cmp}
@@ -27,9 +27,7 @@ use Rattle.policy_build.specs.Selections.{IsSelection}
 use Rattle.policy_build.proofs.LoopLemmas.{so_far}
 use Rattle.toml.proofs.Views.{items_view-push, view-Table}
 use Rattle.std.proofs.Common.{BTreeMap}
-use Rattle.std.proofs.lemmas.List.{map-append}
-use Rattle.policy_build.specs.declared.made_rule.MadeRule.{MadeRule}
-use Rattle.policy_build.specs.Making.{MadeOf, made_of, rules_made}
+use Rattle.std.proofs.lemmas.List.{get_or-map, length-map, map-append}
 
 -- ---- tables
 
@@ -115,6 +113,9 @@ module _ (rule : Rule) (caller at : List ℕ) where
 
 -- ---- lists of rules
 
+pub all_mapped : {X Y : Type 0} (P : Y → Type 0) (f : X → Y) (xs : List X) → All P (map f xs) → All (λ x. P (f x)) xs
+all_mapped P f xs all = λ k d lt. subst P (get_or-map f xs k d (f d) lt) (all k (f d) (omega (arith, lt, length-map xs f)))
+
 pub spelled_push : (rules : List Rule) (items : Items) (rule : Rule) (ms : Members) → SpellsRules rules items → SpellsRule rule ms → SpellsRules (rules ++ rule ∷ []) (push_item items (table ms))
 spelled_push [] items rule ms none s = (ms, no_items, ap (λ i. push_item i (table ms)) none, s, refl)
 spelled_push (r ∷ rules) items rule ms (first, rest, is, here, more) s = (first, push_item rest (table ms), ap (λ i. push_item i (table ms)) is, here, spelled_push rules rest rule ms more s)
@@ -124,20 +125,20 @@ shallow_push no_items ms a b = omega arith
 shallow_push (item d ds) ms a b = let more : items_depth ds ≤ 2 = omega (arith, a) in omega (arith, a, shallow_push ds ms more b)
 
 -- one more rule, and its table
-pub spelled_more : (rules : List MadeRule) (i : ℕ) (rule : MadeRule) (tables : List Value) (m : BTreeMap (String Global) Value) → i < length rules → rule ≡ get_or rules i rule
-    → SpellsRules (rules_made (map made_of (take i rules))) (items_view tables) → items_depth (items_view tables) ≤ 2 → SpellsRule (made_of rule).rule (table_view m) → members_depth (table_view m) ≤ 1
-    → SpellsRules (rules_made (map made_of (take (i + 1) rules))) (items_view (tables ++ Table m ∷ [])) × (items_depth (items_view (tables ++ Table m ∷ [])) ≤ 2)
-spelled_more rules i rule tables m lt is spelled shallow s a =
-    let grown : rules_made (map made_of (take (i + 1) rules)) ≡ rules_made (map made_of (take i rules)) ++ (made_of rule).rule ∷ [] =
-    ap (λ l. rules_made (map made_of l)) (so_far rules i rule lt is)
-    ∙ ap rules_made (map-append made_of (take i rules) (rule ∷ []))
-    ∙ map-append (λ (made : MadeOf). made.rule) (map made_of (take i rules)) (made_of rule ∷ []) in
-    let pushed : items_view (tables ++ Table m ∷ []) ≡ push_item (items_view tables) (table (table_view m)) = items_view-push tables (Table m) ∙ ap (push_item (items_view tables)) (view-Table m) in (
+module _ (tables : List Value) (m : BTreeMap (String Global) Value) where
+  table_pushed : items_view (tables ++ Table m ∷ []) ≡ push_item (items_view tables) (table (table_view m))
+  table_pushed = items_view-push tables (Table m) ∙ ap (push_item (items_view tables)) (view-Table m)
+
+  pub spelled_more : {X : Type 0} (rule_of : X → Rule) (rules : List X) (i : ℕ) (x : X) → i < length rules → x ≡ get_or rules i x
+      → SpellsRules (map rule_of (take i rules)) (items_view tables) → SpellsRule (rule_of x) (table_view m) → SpellsRules (map rule_of (take (i + 1) rules)) (items_view (tables ++ Table m ∷ []))
+  spelled_more rule_of rules i x lt is spelled s =
+      let grown : map rule_of (take (i + 1) rules) ≡ map rule_of (take i rules) ++ rule_of x ∷ [] = ap (map rule_of) (so_far rules i x lt is) ∙ map-append rule_of (take i rules) (x ∷ []) in
       subst (λ (l : List Rule). SpellsRules l (items_view (tables ++ Table m ∷ []))) (sym grown)
-          (subst (λ (l : Items). SpellsRules (rules_made (map made_of (take i rules)) ++ (made_of rule).rule ∷ []) l) (sym pushed)
-          (spelled_push (rules_made (map made_of (take i rules))) (items_view tables) (made_of rule).rule (table_view m) spelled s)),
-      subst (λ (l : Items). items_depth l ≤ 2) (sym pushed) (shallow_push (items_view tables) (table_view m) shallow a),
-    )
+      (subst (λ (l : Items). SpellsRules (map rule_of (take i rules) ++ rule_of x ∷ []) l) (sym table_pushed)
+      (spelled_push (map rule_of (take i rules)) (items_view tables) (rule_of x) (table_view m) spelled s))
+
+  pub shallow_more : items_depth (items_view tables) ≤ 2 → members_depth (table_view m) ≤ 1 → items_depth (items_view (tables ++ Table m ∷ [])) ≤ 2
+  shallow_more shallow a = subst (λ (l : Items). items_depth l ≤ 2) (sym table_pushed) (shallow_push (items_view tables) (table_view m) shallow a)
 
 -- ---- documents
 

@@ -1,7 +1,9 @@
 -- The values of the office's TOML that a rule is printed as.
-use Rattle.std.specs.Prelude.{ℕ, List, [], ◌∷◌, Option, Some, None, codes}
+use Rattle.std.specs.Prelude.{ℕ, List, [], ◌∷◌, Option, Some, None, option_map, codes}
 use Rattle.std.specs.Ordering.{nat_cmp, match_ordering}
 use Rattle.std.specs.Cmp.Lexicographic.{slice_cmp}
+use Rattle.grant_policy.specs.declared.rule.Rule.{Rule}
+use Rattle.policy_build.specs.declared.printing.RuleParts.{RuleParts}
 use Rattle.toml.specs.Data.{Data, string, array, Items, no_items, item, Members, no_members, member}
 
 -- a table with a value at a key, in the order of keys
@@ -18,3 +20,15 @@ words_data text (x ∷ xs) = item (string (text x)) (words_data text xs)
 abbrev pub selection_data : {X : Type 0} → (X → List ℕ) → Option (List X) → Data
 selection_data text None = string (codes "*")
 selection_data text (Some xs) = array (words_data text xs)
+
+-- the rule of these parts
+abbrev pub rule_with : RuleParts → Rule
+rule_with p = record {
+  id = p.id.now;
+  effect = p.effect;
+  callers = p.callers.now;
+  scope = p.scope;
+  at = p.at.now;
+  types = option_map (λ types. types.now) p.types;
+  actions = option_map (λ actions. actions.now) p.actions;
+}

@@ -5,8 +5,7 @@ use Rattle.dns_data.specs.Types.{type_text}
 use Rattle.grant_policy.specs.declared.rule.Rule.{Rule}
 use Rattle.grant_policy.specs.Documents.{SpellsRule}
 use Rattle.grant_policy.specs.Words.{action_text, effect_text, scope_text}
-use Rattle.policy_build.specs.Making.{made_of}
-use Rattle.policy_build.specs.Printing.{put_member, selection_data}
+use Rattle.policy_build.specs.Printing.{put_member, rule_with, selection_data}
 use Rattle.policy_build.proofs.PrintingLemmas.{the_members, rule_spelled, rule_shallow}
 use Rattle.policy_build.proofs.printing.rule_table.Goals as goal
 
@@ -33,23 +32,23 @@ the_table rule caller at m0 m1 m2 m3 m4 m5 m6 m7 e0 e1 e2 e3 e4 e5 e6 e7 =
 other : (k : List ℕ) (ms n : Members) (d e : Data) → n ≡ put_member k d ms → d ≡ e → n ≡ put_member k e ms
 other k ms n d e is same = is ∙ ap (λ x. put_member k x ms) same
 
-is_table : (c : goal.After-drop-at-2) → table_view c.put-2.new.table ≡ the_members (made_of c.args.rule.now).rule c.callers_text.result.now (string_bytes c.in_ok-at.at)
+is_table : (c : goal.After-drop-at-2) → table_view c.put-2.new.table ≡ the_members (rule_with c.args.rule.now) c.callers_text.result.now (string_bytes c.in_ok-at.at)
 is_table c =
-    the_table (made_of c.args.rule.now).rule c.callers_text.result.now (string_bytes c.in_ok-at.at) _ _ _ _ _ _ _ _
+    the_table (rule_with c.args.rule.now) c.callers_text.result.now (string_bytes c.in_ok-at.at) _ _ _ _ _ _ _ _
     (ap members_view c.new-table.ensures.empty)
     (other (codes "id") (table_view c.new-table.result) _ _ _ c.in_ok-put_text.ensures (ap string c.as_str.ensures.octets))
     (other (codes "effect") (table_view c.put_text.new.table) _ _ _ c.in_ok-put_text-2.ensures (ap string c.text.ensures))
     c.in_ok-put_text-3.ensures
     (other (codes "scope") (table_view c.put_text-3.new.table) _ _ _ c.in_ok-put_text-4.ensures (ap string c.text-2.ensures))
     (other (codes "at") (table_view c.put_text-4.new.table) _ _ _ c.in_ok-put_text-5.ensures (ap string c.as_str-2.ensures.value))
-    (other (codes "types") (table_view c.put_text-5.new.table) _ _ _ c.in_ok-put.ensures c.in_ok-types.ensures.value)
-    (other (codes "actions") (table_view c.put.new.table) _ _ _ c.in_ok-put-2.ensures c.in_ok-actions.ensures.value)
+    (other (codes "types") (table_view c.put_text-5.new.table) _ _ _ c.in_ok-put.ensures c.in_ok-types.ensures)
+    (other (codes "actions") (table_view c.put.new.table) _ _ _ c.in_ok-put-2.ensures c.in_ok-actions.ensures)
 
 pub returns-clause-spells : goal.returns-clause-spells
 returns-clause-spells c =
-    let rule = (made_of c.args.rule.now).rule in
-    subst (SpellsRule rule) (sym (is_table c)) (rule_spelled rule c.callers_text.result.now (string_bytes c.in_ok-at.at) c.as_str.ensures.identifier c.callers_text.ensures c.in_ok-at.ensures.name c.in_ok-at.ensures.spells c.in_ok-types.ensures.some c.in_ok-actions.ensures.some)
+    let rule = rule_with c.args.rule.now in
+    λ some. subst (SpellsRule rule) (sym (is_table c)) (rule_spelled rule c.callers_text.result.now (string_bytes c.in_ok-at.at) c.as_str.ensures.identifier c.callers_text.ensures c.in_ok-at.ensures.name c.in_ok-at.ensures.spells some.types some.actions)
 
 pub returns-clause-shallow : goal.returns-clause-shallow
 returns-clause-shallow c =
-    subst (λ (m : Members). members_depth m ≤ 1) (sym (is_table c)) (rule_shallow (made_of c.args.rule.now).rule c.callers_text.result.now (string_bytes c.in_ok-at.at))
+    subst (λ (m : Members). members_depth m ≤ 1) (sym (is_table c)) (rule_shallow (rule_with c.args.rule.now) c.callers_text.result.now (string_bytes c.in_ok-at.at))
