@@ -30,13 +30,17 @@ type_word asked = 32 ∷ query_type_text asked
 abbrev pub types_text : List QueryType → List ℕ
 types_text types = if length types == 12 then codes " *" else flat_map type_word types
 
--- a name, or the names below one that are answered alike
-abbrev pub question_group_text : QuestionGroup → List ℕ
-question_group_text (At name) = codes "at " ++ name_text name
-question_group_text (Others encloser) = codes "below " ++ name_text encloser
+-- a word that says which names, the name that they are at or below, and the types
+abbrev pub questions_line : List ℕ → Name → List QueryType → List ℕ
+questions_line word name types = word ++ 32 ∷ (name_text name ++ (types_text types ++ 10 ∷ []))
+
+-- of a name, or of the names below one that are answered alike
+abbrev pub group_line : QuestionGroup → List QueryType → List ℕ
+group_line (At name) types = questions_line (codes "at") name types
+group_line (Others encloser) types = questions_line (codes "below") encloser types
 
 abbrev pub changed_line : ChangedAnswers → List ℕ
-changed_line row = question_group_text row.group ++ (types_text row.types.items ++ 10 ∷ [])
+changed_line row = group_line row.group row.types.items
 
 -- ---- which lines
 

@@ -41,6 +41,7 @@ use Rattle.cli_text.specs.Expect.{expectations_read, IsExpectReport}
 use Rattle.cli_text.specs.OriginLists.{origins_of}
 use Rattle.cli_text.specs.PolicyZones.{IsZonesReport}
 use Rattle.cli_text.specs.PrintedPolicies.{zones_if, rules_from, IsPolicyText}
+use Rattle.cli_text.specs.Reach.{IsReachReport}
 use Rattle.cli_text.specs.ReportLines.{id_text, right_text, other_text}
 use Rattle.cli_core.specs.LineFaults.{◌>>=◌, or_refused, limited, of_names, of_policies, Makes, ReachesInput}
 use Rattle.cli_core.specs.Refusals.{refused_line}
@@ -67,6 +68,7 @@ asked_in (subject.Isolation word) = or_refused (identifier_of word.now) NoCaller
 asked_in (subject.Rights word) = name_if (option_map (λ w. w.now) word) >>= λ name. Ok (asked.Rights name)
 asked_in (subject.Printed source word) = zones_if (option_map (λ w. w.now) word) >>= λ zones. Ok (asked.Printed source zones)
 asked_in (subject.Reverse word) = of_names (absolute_name word.now) >>= λ origin. Ok (asked.Reverse origin)
+asked_in (subject.Reach policy caller word) = of_names (absolute_name word.now) >>= λ origin. Ok (asked.Reach policy caller origin)
 asked_in (subject.Zone origin rules) = tests_of rules >>= λ tests. of_names (absolute_name origin.now) >>= λ name. Ok (asked.Zone name tests)
 
 -- what that is in an input: a policy, expectations, a list of zones, or the files of zones
@@ -79,6 +81,7 @@ checking_of (asked.Isolation caller) text = rules_in text >>= λ rules. Ok (chec
 checking_of (asked.Rights name) text = rules_in text >>= λ rules. Ok (checking.Rights name rules)
 checking_of (asked.Printed source zones) text = rules_from source text >>= λ rules. Ok (checking.Printed (record { rules = rules; zones = zones }))
 checking_of (asked.Reverse origin) text = records_of text >>= λ records. Ok (checking.Reverse origin records)
+checking_of (asked.Reach policy caller origin) text = zone_of_file origin text >>= λ zone. Ok (checking.Reach policy caller zone)
 checking_of (asked.Zone origin tests) text = zone_of_file origin text >>= λ zone. Ok (checking.Zone zone tests)
 
 -- the words are read first, and then the input
@@ -145,6 +148,7 @@ IsReportOn (checking.Isolation caller rules) findings text = IsIsolationReport r
 IsReportOn (checking.Rights name rules) findings text = IsRightsText name rules text × (findings ≡ Absent)
 IsReportOn (checking.Printed printed) findings text = IsPolicyText printed findings text
 IsReportOn (checking.Reverse origin records) findings text = IsReverseReport origin records findings text
+IsReportOn (checking.Reach policy caller zone) findings text = IsReachReport policy.now caller.now zone findings text
 IsReportOn (checking.Zone zone tests) findings text = IsZoneReport zone tests findings text
 
 -- the report on what is read

@@ -17,6 +17,8 @@ pub mod PolicyZones
 pub mod PrintedPolicies
 pub mod Reverse
 pub mod PolicyChanges
+pub mod ChangedAnswerLines
+pub mod Reach
 pub mod Check
 pub mod PolicyChangeAnswers
 pub mod ExpectAnswers
@@ -24,7 +26,6 @@ pub mod PolicyZoneAnswers
 pub mod Guards
 pub mod GuardPromises
 pub mod Texts
-pub mod ChangedAnswerLines
 pub mod Diff
 pub mod Request
 pub mod Octets
@@ -37,3 +38,4 @@ pub mod SplitPromises
 pub mod SplitEffects
 pub mod Explained
 pub mod Plan
+pub mod ReachAnswers

@@ -2,8 +2,9 @@
 
 ghost use Rattle.std.specs.Prelude.{◌≡◌, ◌++◌, IfOk, OnOk, string_bytes};
 ghost use Rattle.std.specs.List.{flat_map};
-ghost use Rattle.cli_text.specs.ChangedAnswerLines.{query_type_text, type_word, types_text, question_group_text, changed_line, AreAnswerLines};
+ghost use Rattle.cli_text.specs.ChangedAnswerLines.{query_type_text, type_word, types_text, questions_line, changed_line, AreAnswerLines};
 
+use dns_names::Name;
 use std::alloc::{AllocError, Global};
 use std::fmt::Write as _;
 use zone_answers::{ChangedAnswers, QueryType, QuestionGroup, ZoneIndex, changed_answers};
@@ -48,23 +49,29 @@ fn push_types(text: &mut String, types: &[QueryType]) -> Result<(), AllocError>
     push_each(text, types)
 }
 
-/// Appends which names a group has. The only error is out of memory.
-fn push_group(text: &mut String, group: &QuestionGroup) -> Result<(), AllocError>
-    ensures { OnOk result (string_bytes text.new ≡ string_bytes text.old ++ question_group_text group.now) }
+/// Appends a line: a word that says which names, the name that they are at or below, and the types of questions. The only error is out of
+/// memory.
+pub(crate) fn push_questions(
+    text: &mut String,
+    word: &str,
+    name: &Name,
+    types: &[QueryType],
+) -> Result<(), AllocError>
+    ensures { OnOk result (string_bytes text.new ≡ string_bytes text.old ++ questions_line word.now name.now types.now) }
 {
-    match group {
-        QuestionGroup::At(name) => write!(text, "at {name}"),
-        QuestionGroup::Others(encloser) => write!(text, "below {encloser}"),
-    }
+    write!(text, "{word} {name}")?;
+    push_types(text, types)?;
+    text.push_str("\n")
 }
 
 /// Appends the line of a row. The only error is out of memory.
 fn push_row(text: &mut String, row: &ChangedAnswers) -> Result<(), AllocError>
     ensures { OnOk result (string_bytes text.new ≡ string_bytes text.old ++ changed_line row.now) }
 {
-    push_group(text, &row.group)?;
-    push_types(text, &row.types)?;
-    text.push_str("\n")
+    match &row.group {
+        QuestionGroup::At(name) => push_questions(text, "at", name, &row.types),
+        QuestionGroup::Others(encloser) => push_questions(text, "below", encloser, &row.types),
+    }
 }
 
 /// The lines of rows. The only error is out of memory.

@@ -1,5 +1,6 @@
 //! What is true of a policy whatever is asked: which of its rules never decide, what it changes, what it leaves out of zones, whether a
-//! caller is isolated, and who may do what; and its text. And what is wrong in a zone, or called for by zones.
+//! caller is isolated, and who may do what; and its text. And what is wrong in a zone, what a caller can change of its answers, or what
+//! zones call for.
 
 ghost use Rattle.std.specs.Prelude.{◌≡◌, ◌++◌, ◌<◌, ℕ, IfOk, OnOk, decimal, option_map};
 ghost use Rattle.cli_text.specs.ReportLines.{id_text, right_text, other_text};
@@ -15,6 +16,7 @@ use crate::origin_list::{OriginList, origins_in};
 use crate::policy_changes::changes_report;
 use crate::policy_zones::zones_report;
 use crate::printed_policy::{PrintedPolicy, WantedZones, policy_report, printed_in, zones_if};
+use crate::reach::{index_of_file, reach_report};
 use crate::reverse::{ForwardRecords, forward_records, reverse_report};
 use crate::rights::read_caller;
 use crate::rights_check::rights_list;
@@ -27,6 +29,7 @@ use dns_names::Name;
 use grant_policy::{Identifier, Policy, Rule, read_policy};
 use policy_tools::{Exposure, IdleRule, Right, idle_rules, isolation};
 use std::alloc::{AllocError, Global};
+use zone_answers::ZoneIndex;
 use zone_core::Zone;
 
 /// What an input is checked for.
@@ -48,6 +51,8 @@ pub enum Subject<'a> {
     Printed(PolicySource, Option<&'a str>),
     /// The pointers that its addresses call for in the reverse zone of this origin.
     Reverse(&'a str),
+    /// Which answers of the zone of this origin this policy lets this caller change.
+    Reach(&'a Policy, &'a Identifier, &'a str),
     /// What other name servers refuse or warn of in the zone of this origin, and what else is asked for.
     Zone(&'a str, ZoneRules<'a>),
 }
@@ -72,6 +77,7 @@ enum Asked<'a> {
     Rights(Option<Name>),
     Printed(PolicySource, WantedZones),
     Reverse(Name),
+    Reach(&'a Policy, &'a Identifier, Name),
     Zone(Name, ZoneTests),
 }
 
@@ -86,6 +92,7 @@ enum Checking<'a> {
     Rights(Option<Name>, Policy),
     Printed(PrintedPolicy),
     Reverse(Name, ForwardRecords),
+    Reach(&'a Policy, &'a Identifier, ZoneIndex),
     Zone(Zone, ZoneTests),
 }
 
@@ -127,6 +134,9 @@ fn asked_in<'a>(alloc: Global, subject: Subject<'a>) -> Result<Asked<'a>, LineFa
         Subject::Rights(word) => Ok(Asked::Rights(name_if(alloc, word)?)),
         Subject::Printed(source, zones) => Ok(Asked::Printed(source, zones_if(alloc, zones)?)),
         Subject::Reverse(word) => Ok(Asked::Reverse(read_name(alloc, word)?)),
+        Subject::Reach(policy, caller, origin) => {
+            Ok(Asked::Reach(policy, caller, read_name(alloc, origin)?))
+        }
         Subject::Zone(origin, rules) => zone_asked(alloc, origin, rules),
     }
 }
@@ -162,6 +172,11 @@ fn checking_of<'a>(
             let forward = forward_records(alloc, text)?;
             Ok(Checking::Reverse(origin, forward))
         }
+        Asked::Reach(policy, caller, origin) => Ok(Checking::Reach(
+            policy,
+            caller,
+            index_of_file(alloc, origin, text)?,
+        )),
         Asked::Zone(origin, tests) => {
             Ok(Checking::Zone(zone_of_file(alloc, origin, text)?, tests))
         }
@@ -366,6 +381,7 @@ fn report_on(alloc: Global, checking: &Checking<'_>) -> Result<Report, AllocErro
         Checking::Rights(name, policy) => rights_report(alloc, policy, name),
         Checking::Printed(printed) => policy_report(alloc, printed),
         Checking::Reverse(origin, forward) => reverse_report(alloc, origin, forward),
+        Checking::Reach(policy, caller, index) => reach_report(alloc, policy, caller, index),
         Checking::Zone(zone, tests) => zone_report(alloc, zone, *tests),
     }
 }
@@ -387,8 +403,9 @@ fn report_read<R: Input>(
 /// caller from that: `soa`, a name, and a type, an action and a rule by which the caller may see an SOA there; or `shared`, a name, what
 /// the caller may do there, another caller or `*` for any that no rule names, and what that one may do. Of expectations it is a line for
 /// each that is not so: `differs`, its line, and what is decided; or `exceeds`, its line, and a caller, a name, a type, an action and a
-/// rule that grants beyond its limit. Of the zones of a list it is what `do_policy_zones` says. Of a policy that is printed it is the text of it. Of forward zones it
-/// is the PTR records that their addresses call for. Otherwise one line tells the refusal that comes first: of the caller, that the input is too large, or what is
+/// rule that grants beyond its limit. Of the zones of a list it is what `do_policy_zones` says. Of a policy that is printed it is the text of
+/// it. Of the answers of a zone it is what `do_reach` says. Of forward zones it is the PTR records that their addresses call for. Otherwise
+/// one line tells the refusal that comes first: of the caller, that the input is too large, or what is
 /// wrong in it.
 pub fn do_check<R: Input, W: Sink>(
     alloc: Global,

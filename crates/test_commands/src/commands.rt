@@ -11,7 +11,7 @@ use crate::commands::answers::push_answers;
 use crate::commands::devices::{Command, Manner};
 use crate::commands::diffs::push_diff;
 use crate::commands::plans::push_plan;
-use crate::commands::policies::{push_against, push_expect, push_zones};
+use crate::commands::policies::{push_against, push_expect, push_reach, push_zones};
 use cli_core::{JobFault, LineFault};
 use cli_text::Findings;
 use std::alloc::{AllocError, Global};
@@ -44,6 +44,7 @@ pub fn push_command_answer(
         "plan" | "plan-answers" | "plan-reads" | "plan-write" => push_plan(alloc, row, answer),
         "expect" | "expect-reads" => push_expect(alloc, row, answer),
         "beside" | "beside-reads" => push_zones(alloc, row, answer),
+        "reach" | "reach-reads" | "reach-write" => push_reach(alloc, row, answer),
         "against" | "against-reads" | "against-write" => push_against(alloc, row, answer),
         "no-memory" => push_status(alloc, Err(JobFault::Reported(LineFault::NoMemory)), answer),
         name => push_run(

@@ -15,6 +15,9 @@
 //! `plan CALLER` gives a policy, and after a line `==` what `apply` reads, to the command; in `plan-reads` the first read of each input
 //! fails, and in `plan-write` the first write.
 //!
+//! `reach CALLER|ORIGIN` gives a policy, and after a line `==` a master file, to the command; in `reach-reads` the first read of each input
+//! fails, and in `reach-write` the first write.
+//!
 //! `words`: in a row the words of the command line have bars between them, and a verb alone has no words. `job WORDS` prints the job
 //! that they ask for, or `help` or `misused`; `text WORDS` prints what is told where they ask for none.
 #![tactic(auto)]

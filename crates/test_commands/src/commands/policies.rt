@@ -1,16 +1,17 @@
-//! What policies change, whether they are as expected, and what they leave out of zones.
+//! What policies change, whether they are as expected, what they leave out of zones, and which answers they let a caller change.
 
 use crate::commands::devices::Manner;
 use crate::commands::trials::{Devices, Trial, tried};
 use cli_text::{
-    ChangesFault, ExpectFault, Findings, PolicyZonesFault, do_changes, do_expect, do_policy_zones,
+    ChangesFault, ExpectFault, Findings, PolicyZonesFault, ReachFault, do_changes, do_expect,
+    do_policy_zones, do_reach,
 };
 use dns_master::{Sink, Source};
 use std::alloc::{AllocError, Global};
 use std::fmt::Display;
 use test_rows::{Row, text_of};
 
-/// A policy, and another, what is expected of it, or zones.
+/// A policy, and another, what is expected of it, zones, or a zone.
 #[derive(Clone, Copy)]
 struct TwoTexts<'a> {
     first: &'a str,
@@ -82,6 +83,27 @@ impl Trial for Beside<'_> {
     }
 }
 
+/// To write which answers of a zone a caller can change.
+#[derive(Clone, Copy)]
+struct Reaches<'a> {
+    caller: &'a str,
+    origin: &'a str,
+}
+
+impl Trial for Reaches<'_> {
+    type Outcome = Result<Findings, ReachFault>;
+
+    fn run<R: Source, N: Source, W: Sink>(
+        self,
+        alloc: Global,
+        first: &mut R,
+        second: &mut N,
+        writer: &mut W,
+    ) -> Result<Findings, ReachFault> {
+        do_reach(alloc, (self.caller, self.origin), first, second, writer)
+    }
+}
+
 /// A device whose first call fails.
 const FAILING: Manner = Manner { most: 64, fails: 1 };
 
@@ -148,6 +170,36 @@ fn push_beside(
         reader: (!reader.is_empty()).then_some(reader),
     };
     let (printed, done) = tried(alloc, beside, devices_of(alloc, row, manners)?);
+    answer.extend_from_slice(&printed)?;
+    push_findings(alloc, done, answer)
+}
+
+/// Appends the answer to a row of a policy and a zone, with a caller and an origin in its text: what is printed of them; the same where the
+/// first read of each fails; or where the first write does.
+pub fn push_reach(alloc: Global, row: &Row<'_>, answer: &mut Vec<u8>) -> Result<(), AllocError> {
+    let sound = Manner::SOUND;
+    match row.verb {
+        "reach-reads" => {
+            push_reached(alloc, row, [FAILING, sound, sound], answer)?;
+            answer.push(b'\n')?;
+            push_reached(alloc, row, [sound, FAILING, sound], answer)
+        }
+        "reach-write" => push_reached(alloc, row, [sound, sound, FAILING], answer),
+        _ => push_reached(alloc, row, [sound, sound, sound], answer),
+    }
+}
+
+/// Appends what is printed of the answers of a zone, with devices that work so.
+fn push_reached(
+    alloc: Global,
+    row: &Row<'_>,
+    manners: [Manner; 3],
+    answer: &mut Vec<u8>,
+) -> Result<(), AllocError> {
+    let text = text_of(&row.text);
+    let (caller, origin) = text.split_once('|').unwrap_or((text, ""));
+    let devices = devices_of(alloc, row, manners)?;
+    let (printed, done) = tried(alloc, Reaches { caller, origin }, devices);
     answer.extend_from_slice(&printed)?;
     push_findings(alloc, done, answer)
 }
