@@ -1,5 +1,6 @@
 -- What the program does: the job that the words of its command line ask for, in what is around it, and the status with which it ends.
 use Rattle.std.specs.Prelude.{◌≡◌, ◌≢◌, ◌<◌, ◌⊎◌, ⊤, ℕ, List, [], codes, Option, Some, None, option_map, unwrap_or, Result, Ok, Err, string_bytes}
+use Rattle.std.specs.Borrow.{Bor}
 use Rattle.dns_master.specs.declared.device.DeviceFailed.{DeviceFailed}
 use Rattle.cli_core.specs.declared.commands.check.Check.{Check}
 use Rattle.cli_core.specs.declared.commands.check.Check.TheVariants as check
@@ -46,6 +47,8 @@ use Rattle.cli_text.specs.Check.{Checked}
 use Rattle.cli_text.specs.PolicyChangeAnswers.{AreChangesChecked}
 use Rattle.cli_text.specs.declared.policy_zones_fault.PolicyZonesFault.{PolicyZonesFault}
 use Rattle.cli_text.specs.PolicyZoneAnswers.{AreZonesChecked}
+use Rattle.cli_text.specs.declared.reach_fault.ReachFault.{ReachFault}
+use Rattle.cli_text.specs.ReachAnswers.{IsReachChecked}
 use Rattle.cli_text.specs.Diff.{Differs}
 use Rattle.cli_text.specs.Plan.{IsPlanned}
 use Rattle.wire_tcp.specs.Connections.{Writing}
@@ -156,6 +159,17 @@ EndsZones a i policy reader path o status =
     ((path ≢ codes "-") × IsUnread i × EndsZonesBy a policy reader (named a path) o status)
     ⊎ ((path ≡ codes "-") × EndsZonesBy a policy reader (standard i) o status)
 
+-- The policy of the path is read, and then the zone of the origin. At 0 both were read, and the caller can change no answer.
+abbrev pub EndsReachBy : {H : Type 0} → Around H → List ℕ → List ℕ → Bor (List ℕ) → InputOf → Writing → ℕ → Type 0
+EndsReachBy a policy caller origin zone o status = (outcome : Result Findings ReachFault)
+    × IsReachChecked caller origin (named a policy) zone o.old o.new outcome o.before o.after × (status ≡ check_status_of outcome)
+
+-- that is the input that a path names: standard input, if it is `-` or none is given, or a file
+abbrev pub EndsReach : {H : Type 0} → Around H → Reading → List ℕ → List ℕ → Bor (List ℕ) → Option (List ℕ) → Writing → ℕ → Type 0
+EndsReach a i policy caller origin path o status =
+    ((unwrap_or path (codes "-") ≢ codes "-") × IsUnread i × EndsReachBy a policy caller origin (named a (unwrap_or path (codes "-"))) o status)
+    ⊎ ((unwrap_or path (codes "-") ≡ codes "-") × EndsReachBy a policy caller origin (standard i) o status)
+
 -- What a diff prints of the zones of two files: a path that is `-` is standard input, of which nothing is left for the second file where the
 -- first is it too. Where neither is, standard input is not read.
 abbrev pub DiffersBy : {H : Type 0} → Around H → Reading → DiffForm → List ℕ → ZoneFiles → Writing → Result (Unit {0}) DiffFault → Type 0
@@ -195,6 +209,7 @@ CheckEnds a i o (check.Expect policy file) status = EndsExpected a i policy.now 
 CheckEnds a i o (check.PolicyZones policy zones reader) status = EndsZones a i policy.now (option_map (λ r. r.now) reader) zones.now o status
 CheckEnds a i o (check.Isolation policy caller) status = IsUnread i × EndsCheck (Isolation caller) (a.file policy.now) ⊤ (a.unreadable policy.now) o status
 CheckEnds a i o (check.Rights policy name) status = IsUnread i × EndsCheck (Rights name) (a.file policy.now) ⊤ (a.unreadable policy.now) o status
+CheckEnds a i o (check.Reach policy caller origin file) status = EndsReach a i policy.now caller.now origin (option_map (λ f. f.now) file) o status
 CheckEnds a i o (check.Zone origin rules) status = EndsCheck (Zone origin rules) i.left (i.after ≡ i.before) (i.before < i.after) o status
 
 -- A job that needs no store reads its own input and answers to its own words, and the status is 0 exactly where it went through, and a

@@ -6,7 +6,7 @@ ghost use Rattle.sqlite.specs.Held.{state};
 ghost use Rattle.cli_text.specs.Plan.{IsPlanned};
 ghost use Rattle.cli_store.specs.Stores.{stores_of};
 ghost use Rattle.cli_store.specs.ImportList.{ListImported};
-ghost use Rattle.cli_store.specs.Program.{Ends, OfInput, EndsTask, EndsCheck, EndsChanges, EndsCheckOf, EndsExpectedBy, EndsExpected, EndsZonesBy, EndsZones, EndsTaskOf, IsInquiredOf, AnswerEnds, DiffersBy, named, standard, requested, CheckEnds, TextJobEnds, StoreJobEnds, JobEnds, EndsFault, WordsEnd, IsToldWhole, status_of, check_status_of};
+ghost use Rattle.cli_store.specs.Program.{Ends, OfInput, EndsTask, EndsCheck, EndsChanges, EndsCheckOf, EndsExpectedBy, EndsExpected, EndsZonesBy, EndsZones, EndsReachBy, EndsReach, EndsTaskOf, IsInquiredOf, AnswerEnds, DiffersBy, named, standard, requested, CheckEnds, TextJobEnds, StoreJobEnds, JobEnds, EndsFault, WordsEnd, IsToldWhole, status_of, check_status_of};
 
 use crate::files::StoreFiles;
 use crate::import_list::import_all;
@@ -26,7 +26,7 @@ use cli_core::{
 };
 use cli_text::{
     AnswerFault, Apply, DiffFault, Findings, Request, Split, Subject, Task, do_answers, do_changes,
-    do_check, do_diff, do_expect, do_plan, do_policy_zones,
+    do_check, do_diff, do_expect, do_plan, do_policy_zones, do_reach,
 };
 use dns_master::{Sink, Source};
 use sqlite::{Alter, Connection};
@@ -229,6 +229,51 @@ fn policy_zones<M: Surroundings, R: Source, W: Sink>(
     policy_zones_of(around, what, &mut file, output)
 }
 
+/// Writes which answers of a zone the policy of a path lets a caller change, by an input.
+fn reach_of<M: Surroundings, N: Input, W: Sink>(
+    around: &M,
+    what: (&str, &str, &str),
+    zone: &mut N,
+    output: &mut W,
+) -> ExitCode
+    ensures { EndsReachBy (M.around around.now) what.entry.0.now what.entry.1.now what.entry.2
+        (record { left = N.left zone.old; fine = N.fine zone.old zone.new; failed = N.failed zone.old zone.new })
+        (record { old = W.contents output.old; new = W.contents output.new; before = W.failures output.old; after = W.failures output.new })
+        (exit_status result) }
+{
+    let (policy, caller, origin) = what;
+    let mut policy = NamedFile {
+        around,
+        path: policy,
+    };
+    check_status(
+        around,
+        do_reach(around.alloc(), (caller, origin), &mut policy, zone, output),
+    )
+}
+
+/// The same by the zone that a path names: standard input, if it is `-` or none is given, or a file.
+fn reach<M: Surroundings, R: Source, W: Sink>(
+    around: &M,
+    what: (&str, &str, &str),
+    file: Option<&str>,
+    input: &mut R,
+    output: &mut W,
+) -> ExitCode
+    ensures { EndsReach (M.around around.now)
+        (record { left = R.remaining input.old; rest = R.remaining input.new; before = R.failures input.old; after = R.failures input.new })
+        what.entry.0.now what.entry.1.now what.entry.2 (option_map (λ f. f.now) file.entry)
+        (record { old = W.contents output.old; new = W.contents output.new; before = W.failures output.old; after = W.failures output.new })
+        (exit_status result) }
+{
+    let path = file.unwrap_or("-");
+    if is_standard(path) {
+        return reach_of(around, what, input, output);
+    }
+    let mut file = NamedFile { around, path };
+    reach_of(around, what, &mut file, output)
+}
+
 /// Checks what the words of `check` name.
 fn check_job<M: Surroundings, R: Source, W: Sink>(
     around: &M,
@@ -256,6 +301,12 @@ fn check_job<M: Surroundings, R: Source, W: Sink>(
             reader,
         } => policy_zones(around, (policy, reader), zones, input, output),
         Check::Expect { policy, file } => expect(around, policy, file, input, output),
+        Check::Reach {
+            policy,
+            caller,
+            origin,
+            file,
+        } => reach(around, (policy, caller, origin), file, input, output),
         Check::Isolation { policy, caller } => {
             check_file(around, Subject::Isolation(caller), policy, output)
         }
