@@ -124,7 +124,7 @@ fn text_origin(job: TextJob<'_>) -> Option<&str> {
     match job {
         TextJob::Canon(words) => Some(words.origin),
         TextJob::Diff(words) => Some(words.origin),
-        TextJob::Check(Check::Zone { origin, .. }) => Some(origin),
+        TextJob::Check(Check::Zone { origin, .. } | Check::Reach { origin, .. }) => Some(origin),
         _ => None,
     }
 }
