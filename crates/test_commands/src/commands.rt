@@ -41,7 +41,9 @@ pub fn push_command_answer(
         | "diff-reads"
         | "diff-write" => { push_diff(alloc, row, answer) }
         "answers" | "answers-json" | "answers-reads" => push_answers(alloc, row, answer),
-        "plan" | "plan-answers" | "plan-reads" | "plan-write" => push_plan(alloc, row, answer),
+        "plan" | "plan-answers" | "plan-explained" | "plan-reads" | "plan-write" => {
+            push_plan(alloc, row, answer)
+        }
         "expect" | "expect-reads" => push_expect(alloc, row, answer),
         "beside" | "beside-reads" => push_zones(alloc, row, answer),
         "reach" | "reach-reads" | "reach-write" => push_reach(alloc, row, answer),

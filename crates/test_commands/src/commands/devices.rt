@@ -1,7 +1,7 @@
 //! Commands, and the devices that they read and write.
 
 use crate::commands::trials::{Devices, Trial, tried};
-use cli_core::{Answer, Canon, Explain, JobFault, QuestionWords, TextForm, ZoneForm};
+use cli_core::{Answer, Canon, Explain, JobFault, PolicySource, QuestionWords, TextForm, ZoneForm};
 use cli_text::{Apply, Findings, Request, Split, Subject, Task, do_check};
 use dns_master::{Pieces, Sink, Source};
 use std::alloc::{AllocError, Global};
@@ -66,6 +66,18 @@ impl Command<'_> {
             "explain" => self.run_task(alloc, asked(words), reading, writing),
             "check" => self.run_check(alloc, Subject::Rules, reading, writing),
             "reverse" => self.run_check(alloc, Subject::Reverse(words), reading, writing),
+            "build" => self.run_check(
+                alloc,
+                Subject::Printed(PolicySource::Groups, zones_in(words)),
+                reading,
+                writing,
+            ),
+            "print" => self.run_check(
+                alloc,
+                Subject::Printed(PolicySource::Rules, zones_in(words)),
+                reading,
+                writing,
+            ),
             "isolation" => self.run_check(alloc, Subject::Isolation(words), reading, writing),
             _ => no_command(alloc),
         }
@@ -158,6 +170,11 @@ fn found_none(done: Result<(), JobFault>) -> Result<Findings, JobFault> {
         Ok(()) => Ok(Findings::Absent),
         Err(fault) => Err(fault),
     }
+}
+
+/// The zones that words name for which rules are wanted; all rules are, if there are none.
+fn zones_in(words: &str) -> Option<&str> {
+    (!words.is_empty()).then_some(words)
 }
 
 /// The task `canon` for an origin.

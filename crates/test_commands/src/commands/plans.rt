@@ -46,8 +46,17 @@ impl Trial for Plans<'_> {
 /// A device whose first call fails.
 const FAILING: Manner = Manner { most: 64, fails: 1 };
 
-/// Appends the answer to a row of a plan: what is printed for the caller, or that with answers; the same where the first read of each input fails; or where the
-/// first write does.
+/// The form that a verb asks for.
+fn form_of(verb: &str) -> PlanForm {
+    match verb {
+        "plan-answers" => PlanForm::Answers,
+        "plan-explained" => PlanForm::Explained,
+        _ => PlanForm::Records,
+    }
+}
+
+/// Appends the answer to a row of a plan: what is printed for the caller, in a form; the same where the first read of each input fails; or
+/// where the first write does.
 pub fn push_plan(alloc: Global, row: &Row<'_>, answer: &mut Vec<u8>) -> Result<(), AllocError> {
     let sound = Manner::SOUND;
     match row.verb {
@@ -75,14 +84,7 @@ pub fn push_plan(alloc: Global, row: &Row<'_>, answer: &mut Vec<u8>) -> Result<(
             [sound, sound, FAILING],
             answer,
         ),
-        "plan-answers" => push_planned(
-            alloc,
-            row,
-            PlanForm::Answers,
-            [sound, sound, sound],
-            answer,
-        ),
-        _ => push_planned(alloc, row, PlanForm::Records, [sound, sound, sound], answer),
+        verb => push_planned(alloc, row, form_of(verb), [sound, sound, sound], answer),
     }
 }
 
