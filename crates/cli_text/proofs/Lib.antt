@@ -28,3 +28,4 @@ pub mod SplitLaws
 pub mod SplitEffectLaws
 pub mod FewItemLaws
 pub mod SerialLaws
+pub mod PrintedLemmas

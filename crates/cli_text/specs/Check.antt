@@ -40,7 +40,7 @@ use Rattle.cli_text.specs.PolicyChanges.{IsChangesReport}
 use Rattle.cli_text.specs.Expect.{expectations_read, IsExpectReport}
 use Rattle.cli_text.specs.OriginLists.{origins_of}
 use Rattle.cli_text.specs.PolicyZones.{IsZonesReport}
-use Rattle.cli_text.specs.PrintedPolicies.{zones_if, rules_from, IsPolicyText}
+use Rattle.cli_text.specs.PrintedPolicies.{zones_if, printed_from, IsPolicyText}
 use Rattle.cli_text.specs.Reach.{IsReachReport}
 use Rattle.cli_text.specs.ReportLines.{id_text, right_text, other_text}
 use Rattle.cli_core.specs.LineFaults.{◌>>=◌, or_refused, limited, of_names, of_policies, Makes, ReachesInput}
@@ -79,7 +79,7 @@ checking_of (asked.Expected policy) text = expectations_read text >>= λ rows. O
 checking_of (asked.Zones policy reader) text = origins_of text >>= λ zones. Ok (checking.Zones policy reader zones)
 checking_of (asked.Isolation caller) text = rules_in text >>= λ rules. Ok (checking.Isolation caller rules)
 checking_of (asked.Rights name) text = rules_in text >>= λ rules. Ok (checking.Rights name rules)
-checking_of (asked.Printed source zones) text = rules_from source text >>= λ rules. Ok (checking.Printed (record { rules = rules; zones = zones }))
+checking_of (asked.Printed source zones) text = printed_from source zones text >>= λ printed. Ok (checking.Printed printed)
 checking_of (asked.Reverse origin) text = records_of text >>= λ records. Ok (checking.Reverse origin records)
 checking_of (asked.Reach policy caller origin) text = zone_of_file origin text >>= λ zone. Ok (checking.Reach policy caller zone)
 checking_of (asked.Zone origin tests) text = zone_of_file origin text >>= λ zone. Ok (checking.Zone zone tests)

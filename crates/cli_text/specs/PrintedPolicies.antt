@@ -55,6 +55,10 @@ pub record PrintedOf : Type 0 where
   pub rules : List Rule
   pub zones : Option (List (List (List ℕ)))
 
+-- those of a text, for these zones
+abbrev pub printed_from : PolicySource → Option (List (List (List ℕ))) → List ℕ → Result PrintedOf Refusal
+printed_from source zones text = rules_from source text >>= λ rules. Ok (record { rules = rules; zones = zones })
+
 -- all rules; or those that speak of some name within one of the zones, in order, which decide the same at all names within them
 abbrev pub AreWanted : Option (List (List (List ℕ))) → List Rule → List Rule → Type 0
 AreWanted None rules wanted = wanted ≡ rules

@@ -6,8 +6,8 @@ ghost use Rattle.std.specs.List.{All};
 ghost use Rattle.dns_names.specs.Reading.{absolute_name};
 ghost use Rattle.grant_policy.specs.Documents.{AreRules};
 ghost use Rattle.policy_build.specs.Selections.{SelectsSome};
-ghost use Rattle.cli_core.specs.LineFaults.{◌>>=◌, Gives, of_names};
-ghost use Rattle.cli_text.specs.PrintedPolicies.{PrintedOf, is_gap, words_in, names_from, some_names, zones_if, rules_from, AreWanted, IsPolicyText};
+ghost use Rattle.cli_core.specs.LineFaults.{Gives, of_names};
+ghost use Rattle.cli_text.specs.PrintedPolicies.{PrintedOf, is_gap, words_in, names_from, some_names, zones_if, rules_from, printed_from, AreWanted, IsPolicyText};
 
 use crate::check::{Findings, Report};
 use crate::origin_list::push_origin;
@@ -139,7 +139,7 @@ pub(crate) fn printed_in(
     zones: WantedZones,
     text: Vec<u8>,
 ) -> Result<PrintedPolicy, LineFault>
-    ensures { Gives (λ printed. printed) result (rules_from source text.items >>= λ rules. Ok (record { rules = rules; zones = zones })) }
+    ensures { Gives (λ printed. printed) result (printed_from source zones text.items) }
 {
     let policy = policy_from(alloc, source, &text)?;
     Ok(PrintedPolicy { policy, zones })
