@@ -92,7 +92,7 @@ module _ (origin : List (List ℕ)) (old mid new : Shown) (serial : ℕ) (asked 
   pub stayed : (refusal : StoreFault) → Turns {X = Unit {0}} {E = StoreFault} mid new (Err refusal) (λ s. without_zone s origin)
       → (HasCleanDisk new → (s : State) → HoldsState mid s → Refuses {Y = Unit {0}} refusal (removed (s.zones origin))) → IsTakenOut origin old new (Err refusal)
   stayed refusal turns told = (
-    handed_err old new refusal (Err refusal) (λ s. without_zone s origin) tt (turned_then old mid new (Err refusal) (λ s. without_zone s origin) asked turns),
+    handed_err {X = Unit {0}} {Y = List ℕ} old new refusal (Err refusal) (λ s. without_zone s origin) refl (turned_then old mid new (Err refusal) (λ s. without_zone s origin) asked turns),
     (λ clean s h. fails_so refusal (removal origin (s.zones origin)) (had_fails origin (s.zones origin) serial refusal (found (turns.honest clean) s h) (told clean s (asked.same s h)))),
     tt,
   )

@@ -23,6 +23,7 @@ use dns_names::Name;
 use office_store::{SqlTable, StoreFault};
 use sqlite::{Alter, Connection};
 use std::alloc::{AllocError, Global};
+use std::fmt::Write as _;
 use std::marker::Brand;
 use std::sync::ledger::{Blank, Ledger};
 
@@ -30,7 +31,9 @@ use std::sync::ledger::{Blank, Ledger};
 fn removed_text(alloc: Global, origin: &Name, serial: u32) -> Result<String, AllocError>
     ensures { IfOk result (λ text. string_bytes text ≡ removed_line origin.now serial) }
 {
-    format!(in alloc; "removed {origin} serial {serial}\n")
+    let mut text = String::new(alloc);
+    writeln!(&mut text, "removed {origin} serial {serial}")?;
+    Ok(text)
 }
 
 /// The serial of the zone of an origin. `NoZone` comes exactly where the zone is missing, `Store` where the store fails, and

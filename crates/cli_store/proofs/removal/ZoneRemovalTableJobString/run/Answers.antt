@@ -11,7 +11,9 @@ returns-in_err-serial g c =
     rw (p.1, p.2) (not_found c.args.self.now.0.now _ _ _ e.asks.0 e.answer)
 
 pub returns-in_err-line : goal.returns-in_err-line
-returns-in_err-line g c = ?
+returns-in_err-line g c =
+    let p = err_from_is_err_and c.from_residual-in_err-line.result c.from_residual-in_err-line.ensures.1 in
+    rw (p.1, p.2) (unmade c.args.self.now.0.now _ _ _ c.in_ok-serial.ensures.asks.0 tt)
 
 pub returns-in_err-remove : goal.returns-in_err-remove
 returns-in_err-remove g c =
