@@ -217,7 +217,7 @@ def used_by_type(one):
     model = one.source.models.get(one.name)
     if model:
         line, text = value_of(model)
-        yield from from_clause(names_of_item(model), antt.tokens(text, line), set(), {}, model)
+        yield from from_clause(names_of_item(model), antt.tokens(text, line), set(), one.parameters(), model)
     else:
         for name in rust.named_types(one):
             if name not in one.parameters():
