@@ -11,7 +11,7 @@ SIGNS = set("→ × = : _ ← ⊔ Type record let in do λ ( ) { } . ; ,".split(
 # what antt has and no definition here uses: it is refused, and not misread
 UNREAD = set("axiom mutual ruleset deriving open elim where unfold mod syntax".split())
 CLOSING = {"(": ")", "{": "}"}
-USE = re.compile(r"(?P<pub>pub )?use (?P<path>[\w.]+?)(?:\.\{(?P<names>.*)\}|(?: as (?P<alias>\S+))?)$", re.S)
+USE = re.compile(r"(?P<pub>pub )?use (?P<path>[\w.+]+?)(?:\.\{(?P<names>.*)\}|(?: as (?P<alias>\S+))?)$", re.S)
 # what begins a declaration, behind its marks
 KIND = re.compile(r"(?:pattern |unfoldable |abbrev )*(?:pub )?(?:(record|data) )?")
 
@@ -279,7 +279,7 @@ def chunks(lines, first):
     for at, text in enumerate(lines, first):
         if not text.strip():
             comment = []
-        if not text.strip() or text.startswith((" ", "}", ")")):
+        if not text.strip() or text.startswith((" ", "}", ")", "]")):
             if found:
                 found[-1][2].append(text)
         elif text.startswith("--") and not text.startswith("-- ----"):

@@ -1,0 +1,111 @@
+"""The contracts of the sources: each clause with the function that it is of, and what its names stand for."""
+
+from __future__ import annotations
+
+import collections
+import dataclasses
+import functools
+import re
+
+from counting.functions import end_of
+from making import antt, rust
+from making.files import Wrong, read
+from weakening import terms
+from weakening.proofs import Block
+from weakening.repository import crate_of, sources
+from weakening.scopes import Scope, Type
+
+HEAD = re.compile(r"^[ ]*(?P<kind>requires|ensures|invariant)(?:[ ]+\*?(?P<name>\w+))?[ ]*\{|^[ ]*(?:pub(?:\([^)]*\))? )?(?:const )?fn (?P<fn>\w+)", re.M)
+
+
+@dataclasses.dataclass(eq=False)
+class Contract:
+    """A clause of a function."""
+    path: str
+    line: int
+    function: str
+    kind: str
+    name: str
+    text: str
+    scope: Scope
+    has_body: bool
+
+    @functools.cached_property
+    def type(self) -> Type | None:
+        try:
+            return Type(self.scope, terms.parsed(terms.tokens(self.text, self.line), self.path))
+        except Wrong:
+            return None
+
+    def names(self) -> set[str]:
+        return {token.text for token in terms.tokens(self.text, self.line)}
+
+
+@functools.cache
+def contracts_of(path: str) -> list[Contract]:
+    """The clauses of a file, in their order."""
+    text = read(path)
+    block = Block(path)
+    block.imports.update(rust.ghosts(path, text.split("\n"), 1))
+    scope, function, found = Scope(None, block), "", []
+    for head in HEAD.finditer(text):
+        if head["fn"]:
+            function = head["fn"]
+            continue
+        end = end_of(re.sub(r"//.*|\"(?:[^\"\\\n]|\\.)*\"", lambda it: " " * len(it[0]), text), head.end() - 1)
+        line = text.count("\n", 0, head.end()) + 1
+        inner = re.sub(r"//.*", "", text[head.end():end - 1])
+        found.append(Contract(path, line, function, head["kind"], head["name"] or "", inner, scope, not is_law(text, end)))
+    return found
+
+
+def is_law(text: str, at: int) -> bool:
+    """Whether what stands behind a contract is a body without a statement."""
+    rest = re.match(r"(?:\s|//.*|(?:requires|ensures)[ ]+\*?\w*[ ]*\{(?:[^{}]|\{(?:[^{}]|\{[^{}]*\})*\})*\})*", text[at:])
+    return text[at + rest.end():].startswith("{}\n")
+
+
+@functools.cache
+def contracts() -> list[Contract]:
+    return [one for path in sources() for one in contracts_of(path)]
+
+
+@functools.cache
+def by_function() -> dict[str, list[Contract]]:
+    """What functions of each name ensure."""
+    found = collections.defaultdict(list)
+    for one in contracts():
+        if one.kind == "ensures":
+            found[one.function].append(one)
+    return found
+
+
+@functools.cache
+def by_clause() -> dict[str, list[Contract]]:
+    """The named clauses, by their names."""
+    found = collections.defaultdict(list)
+    for one in contracts():
+        if one.kind == "ensures" and one.name:
+            found[one.name].append(one)
+    return found
+
+
+def named_in(one: Contract) -> set[tuple[str, str]]:
+    """The definitions that a clause names, each by its file and its name."""
+    found = set()
+    for word in one.names():
+        first = antt.path_of(word)[0] if word[0] not in "\"(){}.;,@" else ""
+        brought = one.scope.block.imports.get(first)
+        target = one.scope.find(antt.path_of(word)) if brought else None
+        if target and not isinstance(target.what, str):
+            found.add((target.what.path, target.what.name))
+    return found
+
+
+def may_call() -> dict[str, set[str]]:
+    """The crates whose sources call a function of each name."""
+    found = collections.defaultdict(set)
+    for path in sources():
+        for name in re.findall(r"\b(\w+)(?:::<[^()]*?>)?\(", read(path)):
+            found[name].add(crate_of(path))
+    return found

@@ -1,0 +1,124 @@
+"""What is printed: the table, the clauses that nobody reads, all of it as JSON, and how it differs from the accepted list."""
+
+from __future__ import annotations
+
+import collections
+import dataclasses
+import json
+import re
+from collections.abc import Iterator
+
+from making.files import TOP, Wrong, table
+from weakening import losses
+from weakening.repository import below
+from weakening.survey import STATUSES, Verdict, verdicts
+
+STATEMENTS = ("field", "factor")
+LINE = re.compile(r"(?P<path>\S+) (?P<definition>\S+) \[(?P<names>[^\]]*)\]: (?P<reason>.*)")
+
+
+def unread() -> list[Verdict]:
+    """The statements and premises that nobody reads, by crate, lowest first, and by file and line."""
+    order = {name: at for at, name in enumerate(below())}
+    found = [one for one in verdicts() if one.status == "nobody"]
+    return sorted(found, key=lambda one: (order[one.clause.crate], one.clause.path, one.clause.line, one.clause.name))
+
+
+# The table
+
+def counts(rows: list[Verdict], statuses: list[str]) -> list[str]:
+    found = collections.Counter(one.status for one in rows)
+    return [str(len(rows)), *(str(found[status]) for status in statuses)]
+
+
+def tables() -> str:
+    """How many clauses of each kind and of each crate are read, and by what."""
+    used = [status for status in STATUSES if any(one.status == status for one in verdicts())]
+    kinds = [[kind, *counts([one for one in verdicts() if one.clause.kind == kind], used)] for kind in ("field", "factor", "premise", "case", "value")]
+    said = [one for one in verdicts() if one.clause.kind in STATEMENTS]
+    marks = [status for status in used if any(one.status == status for one in said)]
+    rows = [[name, *counts([one for one in said if one.clause.crate == name], marks)] for name in below() if any(one.clause.crate == name for one in said)]
+    legend = "\n".join(f"    {status:<8}  {STATUSES[status]}" for status in used)
+    return "\n\n".join((table(["clauses", "all", *used], kinds), table(["fields and factors of", "all", *marks], rows), legend))
+
+
+def line_of(one: Verdict) -> str:
+    """A clause that nobody reads: where it is, what it says, what a wrong body could do without it, and whose contract promises it."""
+    clause = one.clause
+    text = clause.text() if len(clause.text()) <= 90 else clause.text()[:87] + "..."
+    promised = ", ".join(losses.promised_by((clause.path, clause.definition))[:3])
+    return f"{clause.path}:{clause.line} {clause.title()}: {text} | without it {losses.lost(clause)} | promised by {promised or 'no function'}"
+
+
+def as_json() -> str:
+    rows = []
+    for one in verdicts():
+        row = {name: getattr(one.clause, name) for name in ("crate", "path", "line", "definition", "name", "kind")}
+        rows.append({**row, "text": one.clause.text(), "status": one.status, "readers": one.places, "tests": one.tests, "contracts": one.contracts})
+    return json.dumps({"statuses": STATUSES, "clauses": rows}, ensure_ascii=False, indent=1)
+
+
+# The accepted list
+
+@dataclasses.dataclass
+class Accepted:
+    """What nobody has to read of a definition, and why."""
+    line: int
+    names: list[str]
+    reason: str
+
+
+def short(path: str) -> str:
+    """A file of definitions as the list has it: `zone_core/Delegations`."""
+    return path.removeprefix("crates/").replace("/specs/", "/").removesuffix(".antt")
+
+
+def accepted(path: str) -> dict[tuple[str, str], Accepted]:
+    """The lines of a list: `CRATE/FILE DEFINITION [NAME NAME ..]: reason`; a line that begins with # is a comment."""
+    found = {}
+    try:
+        with open(path, encoding="utf-8") as file:
+            lines = file.read().splitlines()
+    except OSError as why:
+        raise Wrong(f"{path}: {why.strerror}") from why
+    for at, line in enumerate(lines, 1):
+        row = LINE.fullmatch(line)
+        if row:
+            found[row["path"], row["definition"]] = Accepted(at, row["names"].split(), row["reason"].strip())
+        elif line.strip() and not line.startswith("#"):
+            raise Wrong(f"{path}:{at}: no line of the form CRATE/FILE DEFINITION [NAME ..]: reason")
+    return found
+
+
+def by_definition() -> dict[tuple[str, str], list[str]]:
+    found = collections.defaultdict(list)
+    for one in unread():
+        found[short(one.clause.path), one.clause.definition].append(one.clause.name or "-")
+    return found
+
+
+def differences(path: str) -> Iterator[str]:
+    """A line for each clause that nobody reads and the list lacks, and for each that the list has and somebody reads."""
+    listed, now = accepted(path), by_definition()
+    for key, names in now.items():
+        row = listed.get(key)
+        for name in names:
+            if row is None or name not in row.names:
+                yield f"{key[0]} {key[1]}.{name}: nobody reads it, and {path} does not say why"
+    for key, row in listed.items():
+        for name in row.names:
+            if name not in now.get(key, ()):
+                yield f"{path}:{row.line}: {key[0]} {key[1]}.{name} is read, or is not there any more"
+        if not row.reason:
+            yield f"{path}:{row.line}: no reason stands beside {key[0]} {key[1]}"
+
+
+def renewed(path: str) -> str:
+    """The list as it has to be, with the reasons that it has; where none is known there is none."""
+    try:
+        listed = accepted(path)
+    except Wrong:
+        listed = {}
+    rows = [f"{file} {definition} [{' '.join(names)}]: {listed[file, definition].reason if (file, definition) in listed else ''}".rstrip()
+            for (file, definition), names in by_definition().items()]
+    return "\n".join(row + (" " if row.endswith(":") else "") for row in rows)
