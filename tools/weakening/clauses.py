@@ -8,7 +8,7 @@ from collections.abc import Iterator
 
 from making import antt, believe
 from weakening import scopes, terms, typing
-from weakening.proofs import Block, Data, Lemma, Record, proof
+from weakening.proofs import Block, Data, Lemma, Record
 from weakening.repository import crate_of
 from weakening.scopes import Scope, Type
 from weakening.terms import Binder, Call, Infix, Lambda, Let, Name, Node, Row, Tuple
@@ -154,7 +154,7 @@ def is_statement_data(kind: Data) -> bool:
         if isinstance(node, Infix) and node.signs[0] == "→":
             inner = bound(scope, node.terms)
             rows = [one.type if isinstance(one, Binder) else one for term in node.terms[:-1] for one in (typing.binders(term) or [term])]
-            if any(one is not None and typing.stripped(one) is not node and not mentions(one, kind.name) and is_statement(Type(inner, one)) for one in rows):
+            if any(one is not None and not mentions(one, kind.name) and is_statement(Type(inner, one)) for one in rows):
                 return True
     return False
 
@@ -208,6 +208,7 @@ class Lister:
             self.found[-1].is_constructor = True
 
     def function(self, scope: Scope, lemma: Lemma) -> None:
+        """The cases of a function, if there are several, and what they say if they are statements."""
         is_said = codomain(lemma.type) == "Type" and self.is_said(scope, lemma)
         for at, clause in enumerate(lemma.clauses):
             name = str(at + 1) if len(lemma.clauses) > 1 else ""
@@ -278,8 +279,8 @@ class Lister:
 
 
 def is_statement_part(scope: Scope, node: Node) -> bool:
-    if isinstance(node, Lambda):
-        return is_statement(Type(bound(scope, node.binders), node.body)) or isinstance(typing.stripped(node.body), Lambda) and is_statement_part(bound(scope, node.binders), typing.stripped(node.body))
+    while isinstance(node, Lambda):
+        scope, node = bound(scope, node.binders), typing.stripped(node.body)
     return is_statement(Type(scope, node))
 
 

@@ -12,10 +12,11 @@ from making import antt, rust
 from making.files import Wrong, read
 from weakening import terms
 from weakening.proofs import Block
-from weakening.repository import crate_of, sources
+from weakening.repository import sources
 from weakening.scopes import Scope, Type
 
-HEAD = re.compile(r"^[ ]*(?P<kind>requires|ensures|invariant)(?:[ ]+\*?(?P<name>\w+))?[ ]*\{|^[ ]*(?:pub(?:\([^)]*\))? )?(?:const )?fn (?P<fn>\w+)", re.M)
+HEAD = re.compile(r"^[ ]*(?P<kind>requires|ensures|invariant)(?:[ ]+\*?(?P<name>\w+))?[ ]*\{"
+                  r"|^(?P<inset>[ ]*)(?:pub(?:\([^)]*\))? )?(?:const )?fn (?P<fn>\w+)", re.M)
 
 
 @dataclasses.dataclass(eq=False)
@@ -29,6 +30,7 @@ class Contract:
     text: str
     scope: Scope
     has_body: bool
+    is_method: bool
 
     @functools.cached_property
     def type(self) -> Type | None:
@@ -36,6 +38,11 @@ class Contract:
             return Type(self.scope, terms.parsed(terms.tokens(self.text, self.line), self.path))
         except Wrong:
             return None
+
+    def place(self) -> str:
+        """How `rt check --only` names the function, or the module of a method."""
+        crate, _, inner = self.path.removeprefix("crates/").removesuffix(".rt").partition("/src/")
+        return "::".join([crate, *(part for part in inner.split("/") if part != "lib"), *([] if self.is_method else [self.function])])
 
     def names(self) -> set[str]:
         return {token.text for token in terms.tokens(self.text, self.line)}
@@ -47,15 +54,15 @@ def contracts_of(path: str) -> list[Contract]:
     text = read(path)
     block = Block(path)
     block.imports.update(rust.ghosts(path, text.split("\n"), 1))
-    scope, function, found = Scope(None, block), "", []
+    scope, function, is_method, found = Scope(None, block), "", False, []
     for head in HEAD.finditer(text):
         if head["fn"]:
-            function = head["fn"]
+            function, is_method = head["fn"], bool(head["inset"])
             continue
         end = end_of(re.sub(r"//.*|\"(?:[^\"\\\n]|\\.)*\"", lambda it: " " * len(it[0]), text), head.end() - 1)
         line = text.count("\n", 0, head.end()) + 1
         inner = re.sub(r"//.*", "", text[head.end():end - 1])
-        found.append(Contract(path, line, function, head["kind"], head["name"] or "", inner, scope, not is_law(text, end)))
+        found.append(Contract(path, line, function, head["kind"], head["name"] or "", inner, scope, not is_law(text, end), is_method))
     return found
 
 
@@ -80,16 +87,6 @@ def by_function() -> dict[str, list[Contract]]:
     return found
 
 
-@functools.cache
-def by_clause() -> dict[str, list[Contract]]:
-    """The named clauses, by their names."""
-    found = collections.defaultdict(list)
-    for one in contracts():
-        if one.kind == "ensures" and one.name:
-            found[one.name].append(one)
-    return found
-
-
 def named_in(one: Contract) -> set[tuple[str, str]]:
     """The definitions that a clause names, each by its file and its name."""
     found = set()
@@ -99,13 +96,4 @@ def named_in(one: Contract) -> set[tuple[str, str]]:
         target = one.scope.find(antt.path_of(word)) if brought else None
         if target and not isinstance(target.what, str):
             found.add((target.what.path, target.what.name))
-    return found
-
-
-def may_call() -> dict[str, set[str]]:
-    """The crates whose sources call a function of each name."""
-    found = collections.defaultdict(set)
-    for path in sources():
-        for name in re.findall(r"\b(\w+)(?:::<[^()]*?>)?\(", read(path)):
-            found[name].add(crate_of(path))
     return found

@@ -52,7 +52,7 @@ def called(path: str, step: str, label: str) -> tuple[contracts.Contract, ...]:
         found = fitting(contracts.by_function().get(name, []), label)
         if found:
             return tuple(found)
-    rows = [one for name in calls for one in contracts.by_function().get(name, [])]
+    rows = [one for name in sorted(calls) for one in contracts.by_function().get(name, [])]
     return tuple(one for one in rows if one.name == label) or tuple(one for one in rows if not one.name)
 
 

@@ -91,9 +91,9 @@ def promised_by(key: tuple[str, str]) -> tuple[str, ...]:
     """The functions whose contracts promise a definition: those that name it, or else what names it, and so on."""
     ring, seen = {key}, {key}
     while ring:
-        found = {f"{crate_of(it.path)}::{it.function}" for one in ring for it in survey.by_contracts().get(one, ()) if it.kind == "ensures" and not is_test(crate_of(it.path))}
-        if found:
-            return tuple(sorted(found))
+        rows = [it for one in ring for it in survey.by_contracts().get(one, ()) if it.kind == "ensures" and not is_test(crate_of(it.path))]
+        if rows:
+            return tuple(sorted({f"{crate_of(it.path)}::{it.function}" for it in rows}))
         ring = {upper for one in ring for upper in above()[one]} - seen
         seen |= ring
     return ()

@@ -16,10 +16,14 @@ TACTICS = {"cc": "≡≢", "omega": "≡≢<≤", "grind": "≡≢<≤", "search
 REWRITES = {"rw", "simp", "rw⁻¹", "grw"}
 
 
+def by_use() -> dict[str, list[str]]:
+    return collections.defaultdict(list)
+
+
 @dataclasses.dataclass
 class Uses:
     """What was found: by part, how it is used and where; and the labels that were taken of what has no known type."""
-    parts: dict[tuple, dict[str, list[str]]] = dataclasses.field(default_factory=lambda: collections.defaultdict(lambda: collections.defaultdict(list)))
+    parts: dict[tuple, dict[str, list[str]]] = dataclasses.field(default_factory=lambda: collections.defaultdict(by_use))
     untyped: dict[str, list[str]] = dataclasses.field(default_factory=lambda: collections.defaultdict(list))
     named: dict[tuple[str, str], set[str]] = dataclasses.field(default_factory=lambda: collections.defaultdict(set))
     typed: int = 0
@@ -51,15 +55,16 @@ class Walker:
         for _, inner in scope.block.modules:
             self.block(scopes.inner_scope(inner, scope))
 
-    def fields(self, scope: Scope, kind) -> None:
+    def fields(self, scope: Scope, kind: Record | Data) -> None:
         inner = Scope(scope)
         for binder in kind.parameters:
-            self.binder(inner, binder)
+            self.binder(inner, binder, [])
         for name, node in (kind.fields if isinstance(kind, Record) else kind.constructors).items():
             self.visit(inner, node, [])
             inner.variables[name] = Variable([Type(inner, node)])
 
     def clause(self, scope: Scope, lemma: Lemma, clause: Clause) -> None:
+        """Walks a clause of a lemma, whose arguments have the types that the lemma says."""
         inner, telescope = Scope(scope), typing.Telescope(Type(scope, lemma.type))
         is_answer = isinstance(lemma.type, Name) and lemma.type.path[0] == "goal"
         for pattern in clause.patterns:
@@ -87,9 +92,8 @@ class Walker:
     def premise(self, key: tuple, pattern: Node, where: list[Node]) -> None:
         """Notes whether a proof of a statement uses a premise of it."""
         pattern = typing.stripped(pattern)
-        is_plain = isinstance(pattern, Name)
-        used = not is_plain or any(isinstance(one, Name) and (one.path[0] == pattern.path[0] or one.path[0] in TACTICS or one.path[0] in ("hlevel", "first_of"))
-                                   for body in where for one in terms.walk(body))
+        named = {one.path[0] for body in where for one in terms.walk(body) if isinstance(one, Name)}
+        used = not isinstance(pattern, Name) or bool(named & {pattern.path[0], "hlevel", "first_of", *TACTICS})
         self.note(key, "used" if used else "ignored", pattern)
 
     # Patterns
@@ -144,8 +148,6 @@ class Walker:
     def take(self, types: list[Type], label: str, node: Node) -> list[Type]:
         """What a label takes of a term that may be of these types; it is noted for each of these that has it."""
         known, found = self.unfolded(types), []
-        if any(self.is_foreign(one) for one in known):
-            return [FOREIGN]
         for one in known:
             key, kind = typing.field(one, label)
             if key:
@@ -154,6 +156,8 @@ class Walker:
                 found.append(kind)
         if found:
             self.uses.typed += 1
+        elif any(self.is_foreign(one) for one in known):
+            return [FOREIGN]
         else:
             self.uses.untyped[label].append(f"{self.path}:{node.start.line}")
         return found
@@ -178,9 +182,10 @@ class Walker:
         passing, self.passing = self.passing, None
         if isinstance(node, (Name, Projection)):
             self.passing = passing
-        return getattr(self, type(node).__name__.lower())(scope, node, wanted)
+        return WAYS[type(node)](self, scope, node, wanted)
 
     def name(self, scope: Scope, node: Name, wanted: list[Type]) -> list[Type]:
+        """A variable, what is known of a function, a tactic, or something declared, with the labels behind it."""
         variable = scope.variable(node.path[0])
         if variable and (variable.is_context or not variable.types and facts.KINDS & set(node.path)):
             return self.known(node)
@@ -269,7 +274,7 @@ class Walker:
                 self.opened(self.visit(inner, one, []), [], one)
         return []
 
-    def binder(self, scope: Scope, node: Binder, wanted=()) -> list[Type]:
+    def binder(self, scope: Scope, node: Binder, wanted: list[Type]) -> list[Type]:
         if node.type:
             self.visit(scope, node.type, [])
         for name in node.names:
@@ -277,12 +282,13 @@ class Walker:
         return []
 
     def function(self, scope: Scope, node: Lambda, wanted: list[Type]) -> list[Type]:
+        """A λ, whose arguments have the types that are wanted of them."""
         inner = Scope(scope)
         telescope = next((typing.Telescope(one) for one in wanted if self.is_function(one)), None)
         for binder in node.binders:
             if isinstance(binder, Binder):
                 rows = [Name(binder.start, [name]) for name in binder.names]
-                self.binder(inner, binder)
+                self.binder(inner, binder, [])
             else:
                 rows = [binder]
             for pattern in rows:
@@ -332,7 +338,8 @@ class Walker:
 
     def literal(self, scope: Scope, node: Literal, wanted: list[Type]) -> list[Type]:
         base = self.visit(scope, node.base, []) if node.base else []
-        known = [one for one in self.unfolded(wanted) or self.unfolded(base) if not isinstance(one.head, Record) or set(node.fields) <= set(one.head.fields)]
+        known = self.unfolded(wanted) or self.unfolded(base)
+        known = [one for one in known if not isinstance(one.head, Record) or set(node.fields) <= set(one.head.fields)]
         for label, part in node.fields.items():
             rows = [(key, kind) for key, kind in (typing.field(one, label) for one in known) if key]
             for key, _ in rows:
@@ -377,9 +384,8 @@ class Walker:
                     self.within_reach([kind], node, deep - 1)
 
 
-# the names of nodes as those of the methods
-Walker.lambda_ = Walker.function
-setattr(Walker, "lambda", Walker.function)
+WAYS = {Name: Walker.name, Projection: Walker.projection, Call: Walker.call, Infix: Walker.infix, Binder: Walker.binder, Lambda: Walker.function,
+        Let: Walker.let, Cases: Walker.cases, Tuple: Walker.tuple, Literal: Walker.literal, Row: Walker.row}
 
 
 def heading(kind: Type) -> tuple[str, str] | None:
@@ -406,7 +412,8 @@ def lifted(found: scopes.Found) -> Type:
 def bodies(block: Block) -> list[Node]:
     """The terms of the lemmas in a block."""
     own = [clause for lemma in block.lemmas.values() for clause in lemma.clauses]
-    return [one.body for one in own] + [body for one in own for body in bodies(one.inner)] + [body for _, inner in block.modules for body in bodies(inner)]
+    inner = [one.inner for one in own] + [one for _, one in block.modules]
+    return [one.body for one in own] + [body for one in inner for body in bodies(one)]
 
 
 def labels_of(kind: Type) -> list[str]:

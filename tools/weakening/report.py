@@ -4,11 +4,12 @@ from __future__ import annotations
 
 import collections
 import dataclasses
+import itertools
 import json
 import re
 from collections.abc import Iterator
 
-from making.files import TOP, Wrong, table
+from making.files import Wrong, read, table
 from weakening import losses
 from weakening.repository import below
 from weakening.survey import STATUSES, Verdict, verdicts
@@ -34,12 +35,29 @@ def counts(rows: list[Verdict], statuses: list[str]) -> list[str]:
 def tables() -> str:
     """How many clauses of each kind and of each crate are read, and by what."""
     used = [status for status in STATUSES if any(one.status == status for one in verdicts())]
-    kinds = [[kind, *counts([one for one in verdicts() if one.clause.kind == kind], used)] for kind in ("field", "factor", "premise", "case", "value")]
+    kinds = [[kind, *counts([one for one in verdicts() if one.clause.kind == kind], used)] for kind in (*STATEMENTS, "premise", "case", "value")]
     said = [one for one in verdicts() if one.clause.kind in STATEMENTS]
     marks = [status for status in used if any(one.status == status for one in said)]
-    rows = [[name, *counts([one for one in said if one.clause.crate == name], marks)] for name in below() if any(one.clause.crate == name for one in said)]
+    crates = [name for name in below() if any(one.clause.crate == name for one in said)]
+    rows = [[name, *counts([one for one in said if one.clause.crate == name], marks)] for name in crates]
     legend = "\n".join(f"    {status:<8}  {STATUSES[status]}" for status in used)
-    return "\n\n".join((table(["clauses", "all", *used], kinds), table(["fields and factors of", "all", *marks], rows), legend))
+    heads = ["clauses", "all", *used], ["fields and factors of", "all", *marks]
+    return "\n\n".join((table(heads[0], kinds), table(heads[1], rows), legend))
+
+
+PAGE, STATED = "docs/promises.md", re.compile(r"<!-- weakened -->\n(.*?)<!-- end -->", re.S)
+MATTERS = (("read by a proof: of a crate above, or of its own crate, as that of a law", ("above", "own")),
+           ("in reach of a tactic, or of a term whose type the tool does not know", ("prover", "maybe")),
+           ("in a half of an equivalence, or only a condition: weaker, another promise would have to be proved", ("exact",)),
+           ("read by no proof, of a definition that a test or a must-fail edit names", ("test",)),
+           ("read by nobody", ("nobody",)))
+
+
+def stated() -> str:
+    """The table of the page: how many statements there are, and by what they are read."""
+    found = collections.Counter(one.status for one in verdicts() if one.clause.kind in STATEMENTS)
+    rows = [[what, f"{sum(found[status] for status in statuses):,}"] for what, statuses in MATTERS]
+    return table(["Statements: fields of records, factors of products, halves of equivalences", f"{sum(found.values()):,}"], rows) + "\n"
 
 
 def line_of(one: Verdict) -> str:
@@ -111,6 +129,9 @@ def differences(path: str) -> Iterator[str]:
                 yield f"{path}:{row.line}: {key[0]} {key[1]}.{name} is read, or is not there any more"
         if not row.reason:
             yield f"{path}:{row.line}: no reason stands beside {key[0]} {key[1]}"
+    found = STATED.search(read(PAGE))
+    if not found or found[1] != stated():
+        yield f"{PAGE}: between <!-- weakened --> and <!-- end --> has to stand\n{stated()}"
 
 
 def renewed(path: str) -> str:
@@ -119,6 +140,20 @@ def renewed(path: str) -> str:
         listed = accepted(path)
     except Wrong:
         listed = {}
-    rows = [f"{file} {definition} [{' '.join(names)}]: {listed[file, definition].reason if (file, definition) in listed else ''}".rstrip()
-            for (file, definition), names in by_definition().items()]
-    return "\n".join(row + (" " if row.endswith(":") else "") for row in rows)
+    rows, crate = comment(path), ""
+    for (file, definition), names in by_definition().items():
+        if file.partition("/")[0] != crate:
+            crate = file.partition("/")[0]
+            rows += ["", f"# {crate}"]
+        reason = listed[file, definition].reason if (file, definition) in listed else ""
+        rows.append(f"{file} {definition} [{' '.join(names)}]: {reason}")
+    return "\n".join(rows)
+
+
+def comment(path: str) -> list[str]:
+    """The lines at the head of a list."""
+    try:
+        with open(path, encoding="utf-8") as file:
+            return list(itertools.takewhile(lambda line: line.startswith("#"), file.read().splitlines()))
+    except OSError:
+        return []

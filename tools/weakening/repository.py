@@ -10,7 +10,7 @@ from making.files import TOP, read
 @functools.cache
 def antt_files() -> list[str]:
     """The paths of all definitions and proofs, from the top."""
-    found = glob.glob(os.path.join(TOP, "crates", "*", "specs", "*.antt")) + glob.glob(os.path.join(TOP, "crates", "*", "proofs", "**", "*.antt"), recursive=True)
+    found = [path for folder in ("specs", "proofs") for path in glob.glob(os.path.join(TOP, "crates", "*", folder, "**", "*.antt"), recursive=True)]
     return sorted(os.path.relpath(path, TOP) for path in found)
 
 

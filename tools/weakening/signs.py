@@ -45,6 +45,7 @@ class Signs:
             self.waiting.append((found.scope, found.what, sign))
 
     def definition(self, scope: Scope, what: Lemma | Record | Data, sign: int) -> None:
+        """What a definition says, where it is promised or a condition itself."""
         if isinstance(what, Record):
             scope = clauses.record_scope(what)
             for node in what.fields.values():
@@ -67,6 +68,7 @@ class Signs:
                 self.visit(scope, term, sign)
 
     def visit(self, scope: Scope, node: Node, sign: int) -> None:
+        """Notes the sign of a part, and goes on to what is in it."""
         self.found[span(scope, node)].add(sign)
         node = typing.stripped(node)
         if isinstance(node, Infix):

@@ -191,6 +191,7 @@ def sorted_out(one: Clause, places: list[str]) -> tuple[str, list[str]] | None:
 
 
 def of_statement(one: Clause, rows: dict[str, list[str]]) -> tuple[str, list[str]]:
+    """A statement: a proof takes it, a tactic may, or a proof takes such a label of what is not known."""
     found = sorted_out(one, rows.get("read", []))
     if found:
         return found

@@ -215,6 +215,7 @@ class Reader:
         return bool(text) and text not in CLOSING and text not in self.stops[-1] and text not in self.signs
 
     def atom(self) -> Node:
+        """A term that needs no brackets, with what is taken of it."""
         text = self.peek()
         if text == "(" or text == "{":
             found = self.bracketed()
@@ -244,6 +245,7 @@ class Reader:
         return found
 
     def inside(self, begun: antt.Token, closing: str) -> Node:
+        """What stands in brackets, with them."""
         names = self.names()
         if names:
             kind = self.term()
@@ -305,6 +307,7 @@ class Reader:
         return self.done(Call(begun, sign, [(None, one) for one in given]))
 
     def cases(self) -> Node:
+        """An `elim` with its cases."""
         begun = self.take("elim")
         of = None
         if self.peek() not in ("[", "[]"):
@@ -358,11 +361,15 @@ class Reader:
             if self.peek(1) == "←":
                 pattern = self.atom()
                 self.take("←")
-            end = next((at for at in range(self.at + 1, len(self.tokens)) if self.tokens[at].column == column and self.tokens[at].line != self.tokens[self.at].line), None)
-            inner = Reader(self.tokens[self.at:end], self.where)
+            inner = Reader(self.tokens[self.at:self.end_of_line(column)], self.where)
             rows.append((pattern, inner.term()))
             self.at += inner.at
         return self.done(Tuple(begun, [term for _, term in rows]))
+
+    def end_of_line(self, column: int) -> int | None:
+        """Where the next line of a `do` begins."""
+        line = self.tokens[self.at].line
+        return next((at for at, one in enumerate(self.tokens) if at > self.at and one.column == column and one.line != line), None)
 
 
 def parsed(found: list[antt.Token], where: str) -> Node:

@@ -9,6 +9,7 @@ from weakening.proofs import Data, Lemma, Record
 from weakening.scopes import Scope, Type, Variable
 from weakening.terms import Binder, Call, Infix, Lambda, Let, Literal, Name, Node, Projection, Row, Tuple
 
+CONSTRUCTORS = ("[]", "None", "Some", "Ok", "Err", "true", "false")  # of the kit
 DEEPEST, WIDEST = 24, 30  # how often definitions are unfolded, and how many cases are kept
 
 
@@ -164,7 +165,8 @@ def built(value: Type, depth: int) -> tuple[str | None, list[Type] | None]:
     scope, node, given = found[0].scope, found[0].node, found[0].given
     if isinstance(node, Infix) and node.signs[0] == "∷":
         return "∷", [Type(scope, node.terms[0]), Type(scope, scopes.later(node))]
-    if isinstance(node, Name) and not scope.variable(node.path[0]) and (isinstance(found[0].head, str) or node.path[-1] in ("[]", "None", "Some", "Ok", "Err", "true", "false")):
+    is_known = isinstance(found[0].head, str) or isinstance(node, Name) and node.path[-1] in CONSTRUCTORS
+    if isinstance(node, Name) and is_known and not scope.variable(node.path[0]):
         return node.path[-1], given
     return None, None
 
