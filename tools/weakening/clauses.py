@@ -92,7 +92,7 @@ def says_name(kind: Type, node: Name) -> bool:
         return any(codomain(one) == "Type" and (word[0].islower() or isinstance(typing.stripped(one), Infix)) for one in found)
     if word in VALUES or word == "Type":
         return False
-    imports = imported(kind.scope, node.path[0])
+    imports = kind.scope.imported(node.path[0])
     if imports and ".declared." in imports.module:
         return False
     return word in ("¬", "⊥", "⊤") or word[0].isupper() or bool(kind.given)
@@ -114,14 +114,6 @@ def codomain(node: Node) -> str:
     if isinstance(node, Call):
         return codomain(node.of)
     return node.path[0] if isinstance(node, Name) else ""
-
-
-def imported(scope: Scope | None, name: str) -> antt.Import | None:
-    while scope:
-        if scope.block and name in scope.block.imports:
-            return scope.block.imports[name]
-        scope = scope.around
-    return None
 
 
 def bound(scope: Scope, rows: list[Node]) -> Scope:

@@ -220,6 +220,10 @@ class Walker:
             return self.rewritten(scope, given, wanted)
         if word in ("subst", "if", "absurd"):
             return self.replaced(scope, word, given, wanted)
+        if word in ("inl", "inr") and len(given) == 1:
+            arms = [typing.of_sum(one, word) for one in self.unfolded(wanted)]
+            self.visit(scope, given[0], [one for one in arms if one])
+            return []
         types = self.visit(scope, node.of, [])
         return self.applied(scope, types, node.given)
 

@@ -65,7 +65,8 @@ def line_of(one: Verdict) -> str:
     clause = one.clause
     text = clause.text() if len(clause.text()) <= 90 else clause.text()[:87] + "..."
     promised = ", ".join(losses.promised_by((clause.path, clause.definition))[:3])
-    return f"{clause.path}:{clause.line} {clause.title()}: {text} | without it {losses.lost(clause)} | promised by {promised or 'no function'}"
+    lost = "no proof uses it, and it could be dropped" if clause.kind == "premise" else f"without it {losses.lost(clause)}"
+    return f"{clause.path}:{clause.line} {clause.title()}: {text} | {lost} | promised by {promised or 'no function'}"
 
 
 def as_json() -> str:

@@ -10,7 +10,7 @@ import pathlib
 from making import antt
 from making.files import TOP, read
 from weakening.proofs import Block, Data, Lemma, Record, proof
-from weakening.terms import Binder, Infix, Node
+from weakening.terms import Binder, Call, Infix, Name, Node
 
 KIT = pathlib.Path("/opt/rattle/rattle")  # where the kit 13f keeps its sources; without them less is known of a proof
 KIT_CRATES = ("core", "std_alloc", "std_io")  # what `std` passes on
@@ -61,6 +61,15 @@ class Scope:
         while scope:
             if name in scope.variables:
                 return scope.variables[name]
+            scope = scope.around
+        return None
+
+    def imported(self, name: str) -> antt.Import | None:
+        """What brings a name in."""
+        scope: Scope | None = self
+        while scope:
+            if scope.block and name in scope.block.imports:
+                return scope.block.imports[name]
             scope = scope.around
         return None
 
@@ -149,6 +158,14 @@ def place(scope: Scope, node: Node) -> tuple[str, int, int]:
 def swapped(node: Infix) -> Infix:
     """The other half of `A ↔ B`."""
     return joined("→", [node.terms[1], node.terms[0]])
+
+
+@functools.cache
+def denied(node: Call) -> Infix:
+    """`¬ A` as `A → ⊥`."""
+    nothing = Name(node.start, ["⊥"])
+    nothing.end = node.start
+    return joined("→", [node.given[0][1], nothing])
 
 
 @functools.cache

@@ -34,6 +34,8 @@ def unfolded(kind: Type, depth: int = 0) -> list[Type]:
     if isinstance(node, Call):
         if isinstance(node.of, Name) and node.of.path == ["if"]:
             return [one for _, arm in node.given[1:] for one in unfolded(Type(scope, arm, given), depth + 1)]
+        if isinstance(node.of, Name) and node.of.path == ["¬"]:
+            return [Type(scope, scopes.denied(node))]
         return unfolded(Type(scope, node.of, [*(Type(scope, one) for name, one in node.given if name is None), *given]), depth + 1)
     if isinstance(node, (Name, Projection)):
         return named(scope, node, given, depth)
@@ -154,7 +156,7 @@ def is_constructor(scope: Scope, name: Name) -> bool:
     if len(name.path) > 1 or name.path[0] in ("[]", "tt", "zero", "true", "false", "refl") or name.path[0][0].isdigit():
         return True
     found = scope.find(name.path)
-    return isinstance(found.what, str) if found else name.path[0][0].isupper()
+    return isinstance(found.what, str) if found else name.path[0][0].isupper() and scope.imported(name.path[0]) is not None
 
 
 def built(value: Type, depth: int) -> tuple[str | None, list[Type] | None]:
@@ -257,6 +259,7 @@ def factor(kind: Type, at: int) -> tuple[tuple | None, Type | None]:
 def record_scope(kind: Type) -> Scope:
     """Where the types of a record's fields stand: its parameters, and its other fields."""
     scope = Scope(kind.scope)
+    scope.variables.update({name: Variable([Type(scope, one.type)] if one.type else []) for one in kind.head.parameters for name in one.names})
     names = [(name, one.type) for one in kind.head.parameters if not one.is_hidden for name in one.names]
     for at, (name, node) in enumerate(names):
         scope.variables[name] = Variable([Type(scope, node)] if node else [], kind.given[at] if at < len(kind.given) else None)
