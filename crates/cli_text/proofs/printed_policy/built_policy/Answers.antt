@@ -18,4 +18,4 @@ pub returns-clause-made : goal.returns-clause-made
 returns-clause-made c =
     let are = c.built_rules_decide_as_the_file_means.ensures.policy c.in_ok-source.source (built_view c.in_ok-built.built) c.in_ok-built.ensures in
     let again = ap (λ t. policy_of (document_of t)) c.as_bytes.ensures.value ∙ c.in_ok-text.ensures.again are in
-    policy_built c.args.text.now c.in_ok-source.source (built_view c.in_ok-built.built) c.in_ok-source.ensures c.in_ok-built.ensures _ _ again c.in_ok-read_rules.ensures.exact
+    policy_built c.args.text.now c.in_ok-source.source (built_view c.in_ok-built.built) c.in_ok-source.ensures.exact c.in_ok-built.ensures _ _ again c.in_ok-read_rules.ensures.exact
