@@ -17,6 +17,11 @@ use cli_text::Findings;
 use std::alloc::{AllocError, Global};
 use test_rows::Row;
 
+/// Whether a verb asks for a diff, or for what is made by one.
+fn is_diff(verb: &str) -> bool {
+    verb.starts_with("diff") || verb.starts_with("edit")
+}
+
 /// Appends the answer to a row of commands.
 pub fn push_command_answer(
     alloc: Global,
@@ -31,15 +36,7 @@ pub fn push_command_answer(
         "reads" => push_reads(alloc, text, &row.body, answer),
         "writes" => push_writes(alloc, text, &row.body, answer),
         "heads" => push_heads(alloc, text, answer),
-        "diff"
-        | "edit"
-        | "diff-guarded"
-        | "edit-guarded"
-        | "diff-guarded-sets"
-        | "diff-answers"
-        | "edit-guarded-sets"
-        | "diff-reads"
-        | "diff-write" => { push_diff(alloc, row, answer) }
+        verb if is_diff(verb) => push_diff(alloc, row, answer),
         "answers" | "answers-json" | "answers-reads" => push_answers(alloc, row, answer),
         "plan" | "plan-answers" | "plan-explained" | "plan-reads" | "plan-write" => {
             push_plan(alloc, row, answer)

@@ -172,7 +172,7 @@ fn found_none(done: Result<(), JobFault>) -> Result<Findings, JobFault> {
     }
 }
 
-/// The zones that words name for which rules are wanted; all rules are, if there are none.
+/// The zones that words name, if there are words: only the rules that matter in them are printed.
 fn zones_in(words: &str) -> Option<&str> {
     (!words.is_empty()).then_some(words)
 }
