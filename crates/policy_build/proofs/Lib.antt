@@ -4,3 +4,6 @@ pub mod LoopLemmas
 pub mod ReadingLemmas
 pub mod PrintingLemmas
 pub mod SelectionLaws
+pub mod SeenLemmas
+pub mod WordLaws
+pub mod DocumentLaws

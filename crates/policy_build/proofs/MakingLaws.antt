@@ -1,11 +1,11 @@
 -- The rules that entries make decide as the entries do.
 use native.Mathlib.Nat.{suc-mul, zero-mul}
-use Rattle.std.proofs.Common.{◌≡◌, ◌≢◌, ◌⊎◌, ◌↔◌, inl, inr, ℕ, zero, suc, ◌+◌, ◌*◌, ◌<◌, ◌≤◌, Bool, true, false, ◌||◌, cond, List, [], ◌∷◌, ◌++◌, length, map, Option, Some, None, Result, Ok, Err, refl, sym, ap, ◌∙◌, subst, ⊎_elim, append_assoc, append-nil, codes, arith, ltb, length-append}
+use Rattle.std.proofs.Common.{◌≡◌, ◌≢◌, ◌⊎◌, inl, inr, ℕ, zero, suc, ◌+◌, ◌*◌, ◌<◌, ◌≤◌, Bool, true, false, ◌||◌, cond, List, [], ◌∷◌, ◌++◌, length, map, Some, None, Ok, Err, refl, sym, ap, ◌∙◌, subst, ⊎_elim, append_assoc, append-nil, codes, arith, ltb, length-append}
 use Rattle.std.specs.Prelude.{bytes_eq, slice_get}
-use Rattle.std.specs.List.{AllByRecursion, Contains, IsDistinct, list_any}
+use Rattle.std.specs.List.{AllByRecursion, Contains, IsDistinct}
 use Rattle.std.proofs.lemmas.Bool.{cases_Bool, cases_lt, lt-ltb, false≢true}
 use Rattle.std.proofs.lemmas.Bool.Decides.{not_from_Decides}
-use Rattle.std.proofs.lemmas.List.{length-map, map-append}
+use Rattle.std.proofs.lemmas.List.{length-map}
 use Rattle.std.proofs.lemmas.List.Elements.{Contains-append_left, Contains-append_right, Contains-append_cases}
 use Rattle.std.proofs.lemmas.Slice.Eq.{bytes_eq-Decides}
 use Rattle.grant_policy.specs.declared.callers.Callers.{Callers}
@@ -15,7 +15,6 @@ use Rattle.grant_policy.specs.Documents.{AreRules}
 use Rattle.grant_policy.specs.Reading.{is_identifier}
 use Rattle.grant_policy.specs.Rules.{Question, Matches, matches}
 use Rattle.grant_policy.proofs.RuleLemmas.{matches-Decides}
-use Rattle.policy_build.specs.declared.build_fault.BuildFault.{BuildFault}
 use Rattle.policy_build.specs.declared.build_fault.BuildFault.TheVariants.{Repeated, Reserved, IdTooLong, TooManyRules}
 use Rattle.policy_build.specs.declared.names.Names.{Names}
 use Rattle.policy_build.specs.declared.place.FileKey.TheVariants as key
@@ -23,7 +22,7 @@ use Rattle.policy_build.specs.declared.place.Place.{Place}
 use Rattle.policy_build.specs.Entries.{EntryOf, entries_in, few_rules}
 use Rattle.policy_build.specs.Faults.{◌>>=◌}
 use Rattle.policy_build.specs.Making.{PairOf, MadeOf, BuiltOf, pairs_with, products, made_id, is_taken, free_id, rule_for, with_rule, numbered, made_in, made_from, built_of, rules_made}
-use Rattle.policy_build.specs.Meaning.{IsAmong, Speaks, IsFirstEntry, NoneSpeaks, IsDecidedFor, IsMeant}
+use Rattle.policy_build.specs.Meaning.{Speaks, IsFirstEntry, NoneSpeaks, IsDecidedFor, IsMeant}
 use Rattle.policy_build.specs.Places.{at_key}
 use Rattle.policy_build.specs.Resolving.{RowOf, members_from, rows_from}
 use Rattle.policy_build.specs.Sources.{SourceOf}

@@ -1,20 +1,17 @@
 -- The tables that rules are printed as spell them.
-use Rattle.std.proofs.Common.{◌≡◌, ◌⊎◌, inl, inr, ℕ, zero, suc, ◌+◌, ◌<◌, ◌≤◌, max, List, [], ◌∷◌, ◌++◌, length, map, take, get_or, Option, Some, None, Result, Ok, Err, Ordering, Less, Equal, Greater, String, Global, string_bytes, refl, sym, ap, ◌∙◌, subst, codes, arith}
-use Rattle.std.specs.List.{All, Contains}
+use Rattle.std.proofs.Common.{◌≡◌, inr, ℕ, ◌+◌, ◌<◌, ◌≤◌, List, [], ◌∷◌, ◌++◌, length, map, take, get_or, Option, Some, None, Ok, Ordering, Less, Equal, Greater, String, Global, string_bytes, refl, sym, ap, ◌∙◌, subst, codes, arith}
+use Rattle.std.specs.List.{All}
 use Rattle.std.specs.BTreeMap.{insert_entry}
-use Rattle.std.specs.Ordering.{nat_cmp, match_ordering}
-use Rattle.std.specs.Cmp.Lexicographic.{slice_cmp}
+use Rattle.std.specs.Ordering.{match_ordering}
 use Rattle.std.specs.String.{string_cmp}
-use Rattle.toml.specs.Data.{Data, string, array, table, Items, no_items, item, Members, no_members, member, get_member, push_item, depth, items_depth, members_depth}
+use Rattle.toml.specs.Data.{Data, string, array, table, Items, no_items, item, Members, no_members, push_item, depth, items_depth, members_depth}
 use Rattle.toml.specs.View.{view, items_view, members_view, table_view}
 use Rattle.toml.specs.declared.value.Value.{Value, Table}
 use Rattle.dns_names.specs.Labels.{IsName}
 use Rattle.dns_names.specs.Spelling.{SpellsAbsolute}
-use Rattle.dns_data.specs.declared.record_type.RecordType.{RecordType}
 use Rattle.dns_data.specs.Types.{IsCalled, type_text}
-use Rattle.grant_policy.specs.declared.action.Action.{Action}
 use Rattle.grant_policy.specs.declared.rule.Rule.{Rule}
-use Rattle.grant_policy.specs.Documents.{AreRules, HasOnly, IsPolicy, SpellsCallers, SpellsItems, SpellsRule, SpellsRules, SpellsSelection, document_of, rule_keys}
+use Rattle.grant_policy.specs.Documents.{AreRules, HasOnly, SpellsCallers, SpellsItems, SpellsRule, SpellsRules, SpellsSelection, document_of, rule_keys}
 use Rattle.grant_policy.specs.Identifiers.{IsIdentifier}
 use Rattle.grant_policy.specs.Reading.{policy_of}
 use Rattle.grant_policy.specs.Words.{action_text, effect_text, scope_text}

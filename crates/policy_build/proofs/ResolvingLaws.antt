@@ -1,5 +1,5 @@
 -- The members of a resolved list are those that its members stand for.
-use Rattle.std.proofs.Common.{◌≡◌, ◌⊎◌, ◌↔◌, inl, inr, ℕ, zero, suc, ◌+◌, ◌<◌, Bool, true, false, cond, List, [], ◌∷◌, ◌++◌, length, Option, Some, None, Result, Ok, Err, refl, sym, ap, ◌∙◌, subst, ⊎_elim, append_assoc, append-nil, arith}
+use Rattle.std.proofs.Common.{◌≡◌, ◌⊎◌, ◌↔◌, inl, inr, ℕ, zero, suc, Bool, true, false, cond, List, [], ◌∷◌, ◌++◌, length, Option, Some, None, Result, Ok, Err, refl, sym, ap, ◌∙◌, subst, ⊎_elim, append_assoc, append-nil, arith}
 use Rattle.std.specs.Prelude.{bytes_eq, is_some}
 use Rattle.std.specs.List.{Contains}
 use Rattle.std.specs.Option.{ok_or}
@@ -7,7 +7,7 @@ use Rattle.std.proofs.lemmas.Bool.{cases_Bool, false≢true}
 use Rattle.std.proofs.lemmas.Slice.Eq.{bytes_eq-Decides}
 use Rattle.std.proofs.lemmas.List.Elements.{Contains-append_left, Contains-append_right, Contains-append_cases}
 use Rattle.policy_build.specs.declared.build_fault.BuildFault.{BuildFault}
-use Rattle.policy_build.specs.declared.build_fault.BuildFault.TheVariants.{Repeated, UnknownGroup, TooManyMembers}
+use Rattle.policy_build.specs.declared.build_fault.BuildFault.TheVariants.{Repeated, UnknownGroup}
 use Rattle.policy_build.specs.declared.member.Member.{Member}
 use Rattle.policy_build.specs.declared.member.Member.TheVariants.{One, Group}
 use Rattle.policy_build.specs.declared.place.FileKey.TheVariants as key

@@ -10,3 +10,4 @@ pub mod Making
 pub mod Meaning
 pub mod Reading
 pub mod Printing
+pub mod Documents

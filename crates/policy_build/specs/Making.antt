@@ -1,5 +1,5 @@
 -- The rules that entries make, in order, with the refusal that comes first.
-use Rattle.std.specs.Prelude.{◌≡◌, ℕ, ◌+◌, ◌*◌, List, [], ◌∷◌, ◌++◌, length, map, Bool, Result, Ok, Err, if◌then◌else◌, ◌==◌, bytes_eq, codes, decimal}
+use Rattle.std.specs.Prelude.{ℕ, ◌+◌, ◌*◌, List, [], ◌∷◌, ◌++◌, length, map, Bool, Result, Ok, Err, if◌then◌else◌, ◌==◌, bytes_eq, codes, decimal}
 use Rattle.std.specs.List.{list_any}
 use Rattle.grant_policy.specs.declared.callers.Callers.{Callers}
 use Rattle.grant_policy.specs.declared.rule.Rule.{Rule}

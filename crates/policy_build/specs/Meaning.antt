@@ -1,5 +1,5 @@
 -- What a file of groups says: what the first of its entries does that speaks of what is asked, and where none does a denial.
-use Rattle.std.specs.Prelude.{◌≡◌, ◌⊎◌, ℕ, ◌<◌, List, Option, Some, None, slice_get}
+use Rattle.std.specs.Prelude.{◌≡◌, ◌⊎◌, ℕ, ◌<◌, List, Some, None, slice_get}
 use Rattle.std.specs.List.{Contains}
 use Rattle.grant_policy.specs.declared.callers.Callers.{Callers}
 use Rattle.grant_policy.specs.Decisions.{denied, decided, decision}

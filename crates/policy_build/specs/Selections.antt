@@ -1,5 +1,5 @@
 -- The types and the actions of a rule.
-use Rattle.std.specs.Prelude.{ℕ, ◌<◌, List, length, Option, Some, None}
+use Rattle.std.specs.Prelude.{◌<◌, List, length, Option, Some, None}
 use Rattle.grant_policy.specs.declared.rule.Rule.{Rule}
 
 -- all there are, or one at least

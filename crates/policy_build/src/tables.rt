@@ -1,10 +1,13 @@
 //! The tables of a file of groups.
 
-ghost use Rattle.std.specs.Prelude.{◌≡◌, ◌⊎◌, Some, None, MatchResult};
+ghost use Rattle.std.specs.Prelude.{◌≡◌, ◌⊎◌, Some, None, Ok, IfOk, MatchResult};
+ghost use Rattle.toml.specs.Data.{Members};
 ghost use Rattle.toml.specs.View.{view, table_view};
 ghost use Rattle.grant_policy.specs.Documents.{document_of};
+ghost use Rattle.policy_build.specs.Documents.{IsSource};
 ghost use Rattle.policy_build.specs.Faults.{Reads};
 ghost use Rattle.policy_build.specs.Reading.{group_in, rule_in, template_in, use_in, use_statement_in, rule_statement_in, statement_in, plain_rule, source_in, source_of};
+ghost use Rattle.policy_build.specs.Sources.{SourceOf};
 
 use crate::build_fault::BuildFault;
 use crate::from_toml::{FromToml, at_key, check_keys, list_at, optional_list_at, table_at};
@@ -200,7 +203,20 @@ fn document(alloc: Global, text: &[u8]) -> Result<Table, BuildFault>
 /// Of several refusals the first of these is answered: `NotToml`; `UnknownKey` at the top; and then array by array, in the order above,
 /// table by table, `UnknownKey`, and key by key what is wrong there.
 pub fn read_source(alloc: Global, text: &[u8]) -> Result<Source, BuildFault>
-    ensures { Reads (λ source. source) result (source_of (document_of text.now)) }
+    // What is read is what the document says.
+    ensures found { IfOk result (λ source. (top : Members) × (document_of text.now ≡ Some top) × IsSource top source) }
+    // A document that says a file is read as this file, unless memory runs out.
+    ensures only { (top : Members) (source : SourceOf) → document_of text.now ≡ Some top → IsSource top source → Reads (λ source. source) result (Ok source) }
+    // Which refusal it is.
+    ensures exact { Reads (λ source. source) result (source_of (document_of text.now)) }
+{
+    text_source(alloc, text)
+}
+
+/// The file of a text, or the refusal that comes first.
+fn text_source(alloc: Global, text: &[u8]) -> Result<Source, BuildFault>
+    ensures exact { Reads (λ source. source) result (source_of (document_of text.now)) }
+    ensures found { IfOk result (λ source. (top : Members) × (document_of text.now ≡ Some top) × IsSource top source) }
 {
     let top = document(alloc, text)?;
     source(alloc, &top)

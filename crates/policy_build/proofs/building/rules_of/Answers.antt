@@ -1,4 +1,4 @@
-use Rattle.std.proofs.Common.{◌≡◌, ◌<◌, ◌∙◌, length, map, arith}
+use Rattle.std.proofs.Common.{◌<◌, ◌∙◌, length, map, arith}
 use Rattle.std.proofs.lemmas.Result.{err_from_is_err_and}
 use Rattle.grant_policy.proofs.ReadLemmas.{mapped_here}
 use Rattle.policy_build.specs.Entries.{entry_of}

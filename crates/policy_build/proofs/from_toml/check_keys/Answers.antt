@@ -1,5 +1,4 @@
-use Rattle.std.proofs.Common.{◌∙◌, Ok, Err, cond, ap, sym}
-use Rattle.policy_build.specs.declared.build_fault.BuildFault.TheVariants.{UnknownKey}
+use Rattle.std.proofs.Common.{◌∙◌, sym}
 use Rattle.policy_build.proofs.ReadingLemmas.{keys_known, keys_unknown}
 use Rattle.policy_build.proofs.from_toml.check_keys.Goals as goal
 

@@ -1,4 +1,4 @@
-use Rattle.std.proofs.Common.{length, ◌<◌, subst, sym, get_or}
+use Rattle.std.proofs.Common.{length, ◌<◌, subst, sym}
 use Rattle.toml.specs.View.{table_view}
 use Rattle.grant_policy.specs.Documents.{SpellsRule}
 use Rattle.policy_build.specs.Selections.{SelectsSome}

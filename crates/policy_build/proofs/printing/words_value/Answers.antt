@@ -1,4 +1,4 @@
-use Rattle.std.proofs.Common.{◌≡◌, ◌<◌, ◌∙◌, length, ap, arith}
+use Rattle.std.proofs.Common.{◌∙◌, ap}
 use Rattle.toml.specs.Data.{string}
 use Rattle.policy_build.proofs.PrintingLemmas.{words_more}
 use Rattle.policy_build.proofs.printing.words_value.Goals as goal

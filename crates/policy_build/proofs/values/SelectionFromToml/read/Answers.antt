@@ -1,4 +1,4 @@
-use Rattle.std.proofs.Common.{sym, codes, ◌∙◌}
+use Rattle.std.proofs.Common.{codes}
 use Rattle.toml.specs.View.{view}
 use Rattle.policy_build.proofs.ReadingLemmas.{unless_filled}
 use Rattle.policy_build.proofs.values.SelectionFromToml.read.Goals as goal
