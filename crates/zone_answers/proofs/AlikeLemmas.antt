@@ -1,14 +1,13 @@
 -- The names of a group are answered alike.
-use Rattle.std.proofs.Common.{◌≡◌, ◌≢◌, ℕ, List, [], ◌∷◌, ◌++◌, length, refl, sym, ap, subst, ◌∙◌, arith, inl, inr}
+use Rattle.std.proofs.Common.{◌≡◌, ◌≢◌, ℕ, List, [], ◌∷◌, ◌++◌, length, sym, ap, subst, ◌∙◌, arith, inr}
 use Rattle.std.specs.List.{Contains}
 use Rattle.dns_names.specs.Labels.{IsWithin}
 use Rattle.dns_data.specs.declared.record.Record.{Record}
 use Rattle.dns_data.specs.declared.rdata.Data.TheVariants as variants
 use Rattle.zone_core.specs.Views.{AreOfZone}
-use Rattle.zone_answers.specs.declared.query_type.QueryType.{QueryType}
 use Rattle.zone_answers.specs.Answers.{Name, Exists, AnswerOf, IsAnswer}
 use Rattle.zone_answers.specs.AnswerTests.{answer_to}
-use Rattle.zone_answers.specs.AnswerChanges.{IsKnown, IsEncloserOf, NamesOfGroupsAreAnsweredAlike}
+use Rattle.zone_answers.specs.AnswerChanges.{IsKnown, NamesOfGroupsAreAnsweredAlike}
 use Rattle.zone_answers.proofs.LeadLemmas.{answer_one, answer_is}
 use Rattle.zone_answers.proofs.LawLemmas.{one_alias}
 use Rattle.zone_answers.proofs.RenamedLemmas.{renamed, alike}

@@ -1,10 +1,9 @@
 -- One step of aliases.
-use Rattle.std.proofs.Common.{◌≡◌, ℕ, zero, suc, ◌+◌, length, List, [], ◌∷◌, ◌++◌, true, false, cond, Some, None, refl, sym, ap, ◌∙◌}
+use Rattle.std.proofs.Common.{◌≡◌, ℕ, zero, suc, ◌+◌, length, List, [], ◌∷◌, ◌++◌, true, false, cond, Some, None, refl, sym, ap, ◌∙◌, arith}
 use Rattle.dns_data.specs.declared.record.Record.{Record}
 use Rattle.zone_answers.specs.declared.query_type.QueryType.{QueryType}
 use Rattle.zone_answers.specs.Answers.{Name, answered_as, Found, Again, AnswerOf, answer_with}
-use Rattle.zone_answers.specs.AnswerTests.{found_at, target_of, was_asked, alias_in, by_alias, follow}
-use Rattle.zone_answers.specs.ChangeTests.{found_under, answer_under}
+use Rattle.zone_answers.specs.AnswerTests.{found_at, target_of, was_asked, alias_in, by_alias, follow, answer_from, answer_to}
 
 module _ (origin : Name) (rs : List Record) (asked : QueryType) (before : List Record) (name : Name) (n : ℕ) where
   next : AnswerOf
@@ -34,17 +33,12 @@ pub follow_none : (origin : Name) (rs : List Record) (asked : QueryType) (before
 unfolding follow
 follow_none origin rs asked before name = refl
 
--- ---- names below one of which none nearer exists
+-- ---- from what is found for the first name
 
-module _ (origin : Name) (rs : List Record) (encloser : Name) (asked : QueryType) where
-  pub under_ends : (found : Found) → found ≡ found_under origin rs encloser asked → None ≡ alias_in found
-      → answer_with origin rs [] [] found ≡ answer_under origin rs encloser asked
-  under_ends found is none =
-      ap (by_alias origin rs [] [] (follow origin rs asked (1 + length rs)) found) none
-      ∙ ap (λ (f : Found). by_alias origin rs [] [] (follow origin rs asked (1 + length rs)) f (alias_in f)) is
-
-  pub under_on : (found : Found) (r : Record) → found ≡ found_under origin rs encloser asked → Some r ≡ alias_in found
-      → follow origin rs asked (1 + length rs) (answered_as [] r ∷ []) (target_of [] r.rdata) ≡ answer_under origin rs encloser asked
-  under_on found r is some =
-      ap (by_alias origin rs [] [] (follow origin rs asked (1 + length rs)) found) some
-      ∙ ap (λ (f : Found). by_alias origin rs [] [] (follow origin rs asked (1 + length rs)) f (alias_in f)) is
+pub first_name : (origin : Name) (rs : List Record) (name : Name) (asked : QueryType)
+    → answer_from origin rs name asked (found_at origin rs name asked) ≡ answer_to origin rs name asked
+unfolding follow
+first_name origin rs name asked =
+    let more : suc (1 + length rs) ≡ 2 + length rs = omega arith in
+    let first : answer_from origin rs name asked (found_at origin rs name asked) ≡ follow origin rs asked (suc (1 + length rs)) [] name = refl in
+    first ∙ ap (λ n. follow origin rs asked n [] name) more

@@ -1,4 +1,8 @@
 pub mod SourceLemmas
+pub mod PlaceLemmas
+pub mod NodeLemmas
+pub mod ReferralLemmas
+pub mod EncloserLemmas
 pub mod CutLemmas
 pub mod FindingLemmas
 pub mod FollowLemmas

@@ -1,5 +1,5 @@
 -- The name whose records answer.
-use Rattle.std.proofs.Common.{◌≡◌, ◌↔◌, ℕ, ◌+◌, ◌≤◌, List, [], ◌∷◌, ◌++◌, Bool, true, false, cond, Option, Some, None, Ok, Err, nat_lt, refl, sym, ap, subst, ◌∙◌, arith, inl, inr}
+use Rattle.std.proofs.Common.{◌≡◌, ◌↔◌, ℕ, ◌≤◌, List, [], ◌∷◌, ◌++◌, Bool, true, false, cond, Option, Some, None, Ok, Err, nat_lt, refl, sym, ap, subst, ◌∙◌, arith, inl, inr}
 use Rattle.std.specs.Bool.{Decides}
 use Rattle.std.specs.List.{Contains, filter}
 use Rattle.std.proofs.lemmas.Bool.{false_from_ne_true}
@@ -15,12 +15,6 @@ use Rattle.zone_answers.specs.Answers.{Name, asterisk, Exists, IsWildcardOver, I
 use Rattle.zone_answers.specs.AnswerTests.{is_there, wildcard_over, if_there, source_of}
 
 -- ---- reading a wildcard
-
-pub wildcard_read : (encloser : Name) → wire_len encloser + 2 ≤ 255 → relative_name encloser (42 ∷ []) ≡ Ok (asterisk ∷ encloser)
-unfolding symbols_within
-wildcard_read encloser room =
-    let fits : nat_lt 255 (1 + 1 + wire_len encloser) ≡ false = grind (arith, nat_tests) in
-    rw fits refl
 
 -- it is read unless it is too long
 wildcard_text : (encloser : Name) → relative_name encloser (42 ∷ []) ≡ fitting (asterisk ∷ encloser)

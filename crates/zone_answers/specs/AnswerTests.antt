@@ -111,3 +111,7 @@ follow origin rs asked (suc n) before name =
 -- the answer to a question: before the last name come the first one, and no more others than there are records
 abbrev pub answer_to : Name → List Record → Name → QueryType → AnswerOf
 answer_to origin rs name asked = follow origin rs asked (2 + length rs) [] name
+
+-- the answer for a name to which no alias led, from what is found for it
+abbrev pub answer_from : Name → List Record → Name → QueryType → Found → AnswerOf
+answer_from origin rs name asked found = by_alias origin rs [] name (follow origin rs asked (1 + length rs)) found (alias_in found)

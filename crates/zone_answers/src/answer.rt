@@ -1,16 +1,19 @@
 //! Answers.
 
-ghost use Rattle.std.specs.Prelude.{◌≡◌, ◌+◌, ◌∷◌, [], ◌++◌, IfOk, length, ◌==◌};
+ghost use Rattle.std.specs.Prelude.{◌≡◌, ◌+◌, ◌∷◌, [], ◌++◌, IfOk, ◌==◌};
 ghost use Rattle.std.specs.List.{flat_map};
-ghost use Rattle.zone_core.specs.Sets.{listing};
-ghost use Rattle.zone_answers.specs.Answers.{code_of, authority_over, answered_as, negative_soa, answer_in, authority_in, addresses_in, additional_in, answer_with, AnswerOf, IsAnswer};
-ghost use Rattle.zone_answers.specs.AnswerTests.{was_asked, target_of, follow, answer_to};
+ghost use Rattle.zone_core.specs.Sets.{listing, InOrder};
+ghost use Rattle.zone_answers.specs.Places.{IsRest, IsReferral, servers_in};
+ghost use Rattle.zone_answers.specs.Answers.{code_of, authority_over, answered_as, negative_soa, answer_in, authority_in, addresses_in, answer_with, AnswerOf, IsAnswer};
+ghost use Rattle.zone_answers.specs.AnswerTests.{was_asked, target_of, follow, answer_from, answer_to};
 ghost use Rattle.zone_answers.specs.ChangeTests.{answer_under};
 ghost use Rattle.zone_answers.specs.Views.{found_in, answer_of, Steps};
 
 use crate::finding::{Finding, alias_in};
+use crate::places::set_in;
 use crate::query_type::QueryType;
-use crate::rows::{asked_at, push_all, push_all_as, push_as, push_negative};
+use crate::referrals::{Referral, node_near, referral_at};
+use crate::rows::{push_all, push_all_as, push_as, push_negative};
 use crate::zone_index::ZoneIndex;
 use dns_data::{Data, Record, RecordType};
 use dns_names::Name;
@@ -72,8 +75,22 @@ fn push_answer(
 pub(crate) fn push_soa(alloc: Global, rows: &mut Vec<Record>, zone: &Zone) -> Result<(), AllocError>
     ensures { IfOk result (λ _. rows.new.items ≡ rows.old.items ++ negative_soa zone.now.origin (listing zone.now.records)) }
 {
-    let soa = asked_at(zone, zone.origin(), QueryType::Kept(RecordType::Soa));
-    push_negative(alloc, rows, soa)
+    // the proof needs that there is no other
+    let _ = zone.records();
+    push_negative(alloc, rows, zone.soa())
+}
+
+/// The servers to which a question is referred.
+fn referral_in<'a>(zone: &'a Zone, finding: &Finding<'_>) -> Referral<'a>
+    ensures { IsReferral (listing zone.now.records) (found_in finding.now) result }
+{
+    match finding {
+        Finding::Delegated(cut) => referral_at(zone.records(), cut),
+        _ => Referral {
+            servers: &[],
+            rest: &[],
+        },
+    }
 }
 
 /// Appends what the authority section has. The only error is out of memory.
@@ -82,17 +99,13 @@ fn push_authority(
     rows: &mut Vec<Record>,
     zone: &Zone,
     finding: &Finding<'_>,
+    servers: &[Record],
 ) -> Result<(), AllocError>
+    requires { servers.now ≡ servers_in (listing zone.now.records) (found_in finding.now) }
     ensures { IfOk result (λ _. rows.new.items ≡ rows.old.items ++ authority_in zone.now.origin (listing zone.now.records) (found_in finding.now)) }
 {
     match finding {
-        Finding::Delegated(cut) => {
-            push_all(
-                alloc,
-                rows,
-                asked_at(zone, cut, QueryType::Kept(RecordType::Ns)),
-            )
-        }
+        Finding::Delegated(_) => push_all(alloc, rows, servers),
         Finding::Missing | Finding::Listed([]) => push_soa(alloc, rows, zone),
         _ => Ok(()),
     }
@@ -102,22 +115,18 @@ fn push_authority(
 fn push_addresses(
     alloc: Global,
     rows: &mut Vec<Record>,
-    zone: &Zone,
+    records: &[Record],
+    rest: &[Record],
     rdata: &Data,
 ) -> Result<(), AllocError>
-    ensures { IfOk result (λ _. rows.new.items ≡ rows.old.items ++ addresses_in (listing zone.now.records) rdata.now) }
+    requires order { InOrder records.now }
+    requires rest { IsRest records.now rest.now }
+    ensures { IfOk result (λ _. rows.new.items ≡ rows.old.items ++ addresses_in records.now rdata.now) }
 {
     if let Data::Ns(server) = rdata {
-        push_all(
-            alloc,
-            rows,
-            asked_at(zone, server, QueryType::Kept(RecordType::A)),
-        )?;
-        push_all(
-            alloc,
-            rows,
-            asked_at(zone, server, QueryType::Kept(RecordType::Aaaa)),
-        )?;
+        let node = node_near(records, rest, server.key());
+        push_all(alloc, rows, set_in(node, RecordType::A))?;
+        push_all(alloc, rows, set_in(node, RecordType::Aaaa))?;
     }
     Ok(())
 }
@@ -126,33 +135,17 @@ fn push_addresses(
 fn push_all_addresses(
     alloc: Global,
     rows: &mut Vec<Record>,
-    zone: &Zone,
-    servers: &[Record],
+    records: &[Record],
+    referral: &Referral<'_>,
 ) -> Result<(), AllocError>
-    ensures { IfOk result (λ _. rows.new.items ≡ rows.old.items ++ flat_map (λ r. addresses_in (listing zone.now.records) r.rdata) servers.now) }
+    requires order { InOrder records.now }
+    requires rest { IsRest records.now referral.now.rest.now }
+    ensures { IfOk result (λ _. rows.new.items ≡ rows.old.items ++ flat_map (λ r. addresses_in records.now r.rdata) referral.now.servers.now) }
 {
-    for server in servers {
-        push_addresses(alloc, rows, zone, &server.rdata)?;
+    for server in referral.servers {
+        push_addresses(alloc, rows, records, referral.rest, &server.rdata)?;
     }
     Ok(())
-}
-
-/// Appends what the additional section has. The only error is out of memory.
-fn push_additional(
-    alloc: Global,
-    rows: &mut Vec<Record>,
-    zone: &Zone,
-    finding: &Finding<'_>,
-) -> Result<(), AllocError>
-    ensures { IfOk result (λ _. rows.new.items ≡ rows.old.items ++ additional_in (listing zone.now.records) (found_in finding.now)) }
-{
-    match finding {
-        Finding::Delegated(cut) => {
-            let servers = asked_at(zone, cut, QueryType::Kept(RecordType::Ns));
-            push_all_addresses(alloc, rows, zone, servers)
-        }
-        _ => Ok(()),
-    }
 }
 
 /// The name to which an alias leads. The only error is out of memory.
@@ -254,8 +247,9 @@ impl ZoneIndex {
         let first = aliases.is_empty();
         let (mut authority, mut additional) = (Vec::new(alloc), Vec::new(alloc));
         push_answer(alloc, &mut aliases, name, finding)?;
-        push_authority(alloc, &mut authority, &self.zone, finding)?;
-        push_additional(alloc, &mut additional, &self.zone, finding)?;
+        let referral = referral_in(&self.zone, finding);
+        push_authority(alloc, &mut authority, &self.zone, finding, referral.servers)?;
+        push_all_addresses(alloc, &mut additional, self.zone.records(), &referral)?;
         Ok(Answer {
             code: code_of(first, finding),
             authoritative: authority_over(first, finding),
@@ -263,6 +257,29 @@ impl ZoneIndex {
             authority,
             additional,
         })
+    }
+
+    /// The answer for a name, from what is found for it. The only error is out of memory.
+    fn answer_from(
+        &self,
+        alloc: Global,
+        name: &Name,
+        finding: &Finding<'_>,
+        asked: QueryType,
+    ) -> Result<Answer, AllocError>
+        ensures { IfOk result (λ answer. answer_of answer ≡ answer_from self.now.origin (listing self.now.records) name.now asked (found_in finding.now)) }
+    {
+        let mut aliases = Vec::new(alloc);
+        match alias_in(finding) {
+            Some(alias) => {
+                let mut last = name.try_copy(alloc)?;
+                follow_one(alloc, &mut aliases, &mut last, alias)?;
+                let most = 1 + self.zone.records().len();
+                let end = self.follow(alloc, &mut aliases, &mut last, asked, most)?;
+                self.finish(alloc, aliases, &last, &end)
+            }
+            None => self.finish(alloc, aliases, name, finding),
+        }
     }
 
     /// The answer to a question. The only error is out of memory.
@@ -274,11 +291,8 @@ impl ZoneIndex {
     ) -> Result<Answer, AllocError>
         ensures { IfOk result (λ answer. answer_of answer ≡ answer_to self.now.origin (listing self.now.records) name.now asked) }
     {
-        let mut aliases = Vec::new(alloc);
-        let mut last = name.try_copy(alloc)?;
-        let most = 2 + self.zone.records().len();
-        let finding = self.follow(alloc, &mut aliases, &mut last, asked, most)?;
-        self.finish(alloc, aliases, &last, &finding)
+        let finding = self.find(alloc, name, asked)?;
+        self.answer_from(alloc, name, &finding, asked)
     }
 
     /// The answer for the names below a name of which none nearer exists, and to which no alias leads, with the root in the place of
@@ -291,23 +305,14 @@ impl ZoneIndex {
     ) -> Result<Answer, AllocError>
         ensures { IfOk result (λ answer. answer_of answer ≡ answer_under self.now.origin (listing self.now.records) encloser.now asked) }
     {
-        let mut aliases = Vec::new(alloc);
-        let mut last = root(alloc)?;
+        let root = root(alloc)?;
         let finding = self.find_under(alloc, encloser, asked)?;
-        match alias_in(&finding) {
-            Some(alias) => {
-                follow_one(alloc, &mut aliases, &mut last, alias)?;
-                let most = 1 + self.zone.records().len();
-                let end = self.follow(alloc, &mut aliases, &mut last, asked, most)?;
-                self.finish(alloc, aliases, &last, &end)
-            }
-            None => self.finish(alloc, aliases, &last, &finding),
-        }
+        self.answer_from(alloc, &root, &finding, asked)
     }
 
-    /// What an authoritative server answers to a question (RFC 1034 section 4.3.2). It takes a look-up for each label of the names that are
-    /// asked for, a copy of the answer, and a comparison for each two aliases that are followed: a chain of n aliases takes n² / 2. The
-    /// only error is out of memory.
+    /// What an authoritative server answers to a question (RFC 1034 section 4.3.2). It takes a search of the zone for each name that is asked
+    /// for, one for each wildcard over such a name and for each server of a cut, a copy of the answer, and a comparison for each two
+    /// aliases that are followed: a chain of n aliases takes n² / 2. The only error is out of memory.
     pub fn answer(&self, alloc: Global, name: &Name, asked: QueryType) -> Result<Answer, AllocError>
         // It is an answer of the zone.
         ensures found { IfOk result (λ answer. IsAnswer self.now.origin (listing self.now.records) name.now asked (answer_of answer)) }

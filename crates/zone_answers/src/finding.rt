@@ -1,17 +1,21 @@
 //! What is found in a zone for one name, before aliases are followed.
 
-ghost use Rattle.std.specs.Prelude.{◌≡◌, ◌∷◌, ◌+◌, ◌≤◌, Some, IfOk};
+ghost use Rattle.std.specs.Prelude.{◌≡◌, ◌∷◌, List, ℕ, Some, IfOk};
 ghost use Rattle.std.specs.Option.{option_copied};
-ghost use Rattle.dns_names.specs.Labels.{wire_len};
-ghost use Rattle.zone_core.specs.Sets.{listing};
+ghost use Rattle.dns_names.specs.Keys.{key_of};
+ghost use Rattle.dns_data.specs.declared.record.Record.{Record};
+ghost use Rattle.zone_core.specs.Sets.{listing, InOrder};
 ghost use Rattle.zone_answers.specs.Answers.{asterisk, asks_alias};
-ghost use Rattle.zone_answers.specs.AnswerTests.{wildcard_over, if_there, source_of, is_ds, unless_parent, cut_over, referral, followed_at, found_from, found_below, found_at, alias_in};
+ghost use Rattle.zone_answers.specs.AnswerTests.{wildcard_over, if_there, source_of, is_ds, unless_parent, cut_over, referral, followed_at, found_by, found_from, found_at, alias_in};
 ghost use Rattle.zone_answers.specs.ChangeTests.{wildcard_under, found_under};
+ghost use Rattle.zone_answers.specs.Places.{node_of, AreNearest};
 ghost use Rattle.zone_answers.specs.Views.{found_in};
 
 use crate::cut_names::cut_over;
+use crate::enclosers::{encloser_key, wildcard_key};
+use crate::places::{Located, asked_in, locate, set_in};
 use crate::query_type::QueryType;
-use crate::rows::{asked_at, is_there};
+use crate::rows::is_there;
 use crate::zone_index::ZoneIndex;
 use dns_data::{Record, RecordType};
 use dns_names::{Name, NameFault};
@@ -33,32 +37,6 @@ pub(crate) enum Finding<'a> {
     Listed(&'a [Record]),
     /// The name was asked for before.
     Again,
-}
-
-/// The wildcard below a name. The only error is out of memory.
-fn wildcard(alloc: Global, encloser: &Name) -> Result<Name, AllocError>
-    requires { wire_len encloser.now + 2 ≤ 255 }
-    ensures { IfOk result (λ name. name ≡ asterisk ∷ encloser.now) }
-{
-    match Name::read_relative(alloc, b"*", encloser) {
-        Ok(name) => Ok(name),
-        Err(_) => Err(AllocError),
-    }
-}
-
-/// The wildcard below the closest encloser of a name that does not exist (RFC 4592 section 3.3.1). The only error is out of memory.
-fn wildcard_over(alloc: Global, zone: &Zone, name: &Name) -> Result<Option<Name>, AllocError>
-    ensures { IfOk result (λ found. found ≡ wildcard_over (listing zone.now.records) name.now) }
-{
-    // the proof needs that it is a name
-    let _ = name.labels();
-    let Some(encloser) = name.parent(alloc)? else {
-        return Ok(None);
-    };
-    if is_there(zone, &encloser) {
-        return Ok(Some(wildcard(alloc, &encloser)?));
-    }
-    wildcard_over(alloc, zone, &encloser)
 }
 
 /// A name, if it exists.
@@ -95,29 +73,6 @@ pub(crate) fn wildcard_there(
     }
 }
 
-/// The name whose records answer for the names below a name of which none nearer exists: the wildcard below their closest encloser, if
-/// it exists. The only error is out of memory.
-fn source_under(alloc: Global, zone: &Zone, encloser: &Name) -> Result<Option<Name>, AllocError>
-    ensures { IfOk result (λ source. source ≡ if_there (listing zone.now.records) (wildcard_under (listing zone.now.records) encloser.now)) }
-{
-    if is_there(zone, encloser) {
-        return wildcard_there(alloc, zone, encloser);
-    }
-    let wildcard = wildcard_over(alloc, zone, encloser)?;
-    Ok(if_there(zone, wildcard))
-}
-
-/// The name whose records answer: the name itself, if it exists, else the wildcard, if that exists. The only error is out of memory.
-fn source_of(alloc: Global, zone: &Zone, name: &Name) -> Result<Option<Name>, AllocError>
-    ensures { IfOk result (λ source. source ≡ source_of (listing zone.now.records) name.now) }
-{
-    if is_there(zone, name) {
-        return Ok(Some(name.try_copy(alloc)?));
-    }
-    let wildcard = wildcard_over(alloc, zone, name)?;
-    Ok(if_there(zone, wildcard))
-}
-
 /// Whether a question is for aliases themselves.
 fn asks_alias(asked: QueryType) -> bool
     ensures { result ≡ asks_alias asked }
@@ -132,26 +87,34 @@ fn is_ds(asked: QueryType) -> bool
     matches!(asked, QueryType::Kept(RecordType::Ds))
 }
 
-/// The alias at a name that is followed.
-fn followed_at<'a>(zone: &'a Zone, name: &Name, asked: QueryType) -> Option<&'a Record>
-    ensures { option_copied result ≡ followed_at (listing zone.now.records) name.now asked }
+/// The alias that is followed, among the records at a name.
+fn followed_in(node: &[Record], asked: QueryType) -> Option<&Record>
+    ensures { (rs : List Record) (name : List (List ℕ)) → InOrder rs → node.now ≡ node_of rs name → option_copied result ≡ followed_at rs name asked }
 {
     if asks_alias(asked) {
         return None;
     }
-    asked_at(zone, name, QueryType::Kept(RecordType::Cname)).first()
+    set_in(node, RecordType::Cname).first()
 }
 
-/// What is found at the name whose records answer, if there is one.
-fn found_from<'a>(zone: &'a Zone, source: &Option<Name>, asked: QueryType) -> Finding<'a>
-    ensures { found_in result ≡ found_from (listing zone.now.records) asked source.now }
+/// What is found at a name that exists, among the records at it.
+fn found_in_node(node: &[Record], asked: QueryType) -> Finding<'_>
+    ensures { (rs : List Record) (name : List (List ℕ)) → InOrder rs → node.now ≡ node_of rs name → found_in result ≡ found_by rs name asked (followed_at rs name asked) }
 {
-    match source {
-        Some(source) => match followed_at(zone, source, asked) {
-            Some(alias) => Finding::Alias(alias),
-            None => Finding::Listed(asked_at(zone, source, asked)),
-        },
-        None => Finding::Missing,
+    match followed_in(node, asked) {
+        Some(alias) => Finding::Alias(alias),
+        None => Finding::Listed(asked_in(node, asked)),
+    }
+}
+
+/// What is found at a name, if it exists.
+fn found_there<'a>(records: &'a [Record], key: &[u8], asked: QueryType) -> Finding<'a>
+    requires { InOrder records.now }
+    ensures { (name : List (List ℕ)) → key.now ≡ key_of name → found_in result ≡ found_from records.now asked (if_there records.now (Some name)) }
+{
+    match locate(records, key) {
+        Located::Node(node) => found_in_node(node, asked),
+        Located::Between(_) => Finding::Missing,
     }
 }
 
@@ -168,26 +131,6 @@ fn unless_parent<'a>(name: &Name, asked: QueryType, cut: Option<&'a Name>) -> Op
             }
         }
         None => None,
-    }
-}
-
-/// What is found within the origin: a cut to whose servers the question is referred, or what the zone has. The only error is out of
-/// memory.
-fn found_below<'a>(
-    alloc: Global,
-    zone: &'a Zone,
-    name: &Name,
-    asked: QueryType,
-    cut: Option<&'a Name>,
-) -> Result<Finding<'a>, AllocError>
-    ensures { IfOk result (λ finding. found_in finding ≡ found_below (listing zone.now.records) name.now asked (option_copied cut.entry)) }
-{
-    match cut {
-        Some(cut) => Ok(Finding::Delegated(cut)),
-        None => {
-            let source = source_of(alloc, zone, name)?;
-            Ok(found_from(zone, &source, asked))
-        }
     }
 }
 
@@ -216,6 +159,72 @@ impl ZoneIndex {
         cut_over(&self.cuts, name)
     }
 
+    /// What is found at the wildcard below a name, if it exists. The only error is out of memory.
+    fn found_at_wildcard(
+        &self,
+        alloc: Global,
+        encloser: &[u8],
+        asked: QueryType,
+    ) -> Result<Finding<'_>, AllocError>
+        ensures { IfOk result (λ finding. (name : List (List ℕ)) → encloser.now ≡ key_of name → found_in finding ≡ found_from (listing self.now.records) asked (if_there (listing self.now.records) (Some (asterisk ∷ name)))) }
+    {
+        let records = self.zone.records();
+        if !self.asterisks {
+            return Ok(Finding::Missing);
+        }
+        let wildcard = wildcard_key(alloc, encloser)?;
+        Ok(found_there(records, &wildcard, asked))
+    }
+
+    /// What is found for a name that does not exist, by the records beside it: at the wildcard below its closest encloser, if that
+    /// exists. The only error is out of memory.
+    fn found_over(
+        &self,
+        alloc: Global,
+        near: &[Record],
+        key: &[u8],
+        asked: QueryType,
+    ) -> Result<Finding<'_>, AllocError>
+        ensures { IfOk result (λ finding. (name : List (List ℕ)) → key.now ≡ key_of name → AreNearest (listing self.now.records) near.now name → found_in finding ≡ found_from (listing self.now.records) asked (if_there (listing self.now.records) (wildcard_over (listing self.now.records) name))) }
+    {
+        match encloser_key(near, key) {
+            Some(encloser) => self.found_at_wildcard(alloc, encloser, asked),
+            None => Ok(Finding::Missing),
+        }
+    }
+
+    /// What is found at the name whose records answer: the name itself, if it exists, else the wildcard, if that exists. The only error
+    /// is out of memory.
+    fn found_own(
+        &self,
+        alloc: Global,
+        name: &Name,
+        asked: QueryType,
+    ) -> Result<Finding<'_>, AllocError>
+        ensures { IfOk result (λ finding. found_in finding ≡ found_from (listing self.now.records) asked (source_of (listing self.now.records) name.now)) }
+    {
+        match locate(self.zone.records(), name.key()) {
+            Located::Node(node) => Ok(found_in_node(node, asked)),
+            Located::Between(near) => self.found_over(alloc, near, name.key(), asked),
+        }
+    }
+
+    /// What is found for the names below a name of which none nearer exists, where none is at or below a cut: at the wildcard below
+    /// their closest encloser, if that exists. The only error is out of memory.
+    fn found_under(
+        &self,
+        alloc: Global,
+        encloser: &Name,
+        asked: QueryType,
+    ) -> Result<Finding<'_>, AllocError>
+        ensures { IfOk result (λ finding. found_in finding ≡ found_from (listing self.now.records) asked (if_there (listing self.now.records) (wildcard_under (listing self.now.records) encloser.now))) }
+    {
+        match locate(self.zone.records(), encloser.key()) {
+            Located::Node(_) => self.found_at_wildcard(alloc, encloser.key(), asked),
+            Located::Between(near) => self.found_over(alloc, near, encloser.key(), asked),
+        }
+    }
+
     /// What is found for a name (RFC 1034 section 4.3.2, steps 2 and 3). The only error is out of memory.
     pub(crate) fn find(
         &self,
@@ -228,7 +237,10 @@ impl ZoneIndex {
         if !name.is_within(self.zone.origin()) {
             return Ok(Finding::Outside);
         }
-        found_below(alloc, &self.zone, name, asked, self.referral(name, asked))
+        match self.referral(name, asked) {
+            Some(cut) => Ok(Finding::Delegated(cut)),
+            None => self.found_own(alloc, name, asked),
+        }
     }
 
     /// What is found for the names below a name of which none nearer exists. The only error is out of memory.
@@ -242,10 +254,7 @@ impl ZoneIndex {
     {
         match self.outermost_cut(encloser) {
             Some(cut) => Ok(Finding::Delegated(cut)),
-            None => {
-                let source = source_under(alloc, &self.zone, encloser)?;
-                Ok(found_from(&self.zone, &source, asked))
-            }
+            None => self.found_under(alloc, encloser, asked),
         }
     }
 }

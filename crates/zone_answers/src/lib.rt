@@ -5,10 +5,13 @@
 mod answer;
 mod changes;
 mod cut_names;
+mod enclosers;
 mod finding;
 mod known_names;
 mod laws;
+mod places;
 mod query_type;
+mod referrals;
 mod rows;
 mod sameness;
 mod unchanged;

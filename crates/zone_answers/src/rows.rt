@@ -5,6 +5,7 @@ ghost use Rattle.zone_core.specs.Sets.{listing};
 ghost use Rattle.zone_answers.specs.Answers.{asked_at, answered_as, negative_ttl, as_negative};
 ghost use Rattle.zone_answers.specs.AnswerTests.{is_there};
 
+use crate::places::{Located, asked_in, locate};
 use crate::query_type::QueryType;
 use dns_data::{Data, Record, Ttl};
 use dns_names::Name;
@@ -15,12 +16,9 @@ use zone_core::Zone;
 pub(crate) fn asked_at<'a>(zone: &'a Zone, name: &Name, asked: QueryType) -> &'a [Record]
     ensures { result.now ≡ asked_at (listing zone.now.records) name.now asked }
 {
-    // the proof needs that the records are in order
-    let _ = zone.records();
-    match asked {
-        QueryType::Kept(record_type) => zone.rrset(name, record_type),
-        QueryType::Any => zone.records_at(name),
-        QueryType::Other => &[],
+    match locate(zone.records(), name.key()) {
+        Located::Node(node) => asked_in(node, asked),
+        Located::Between(_) => &[],
     }
 }
 
@@ -28,9 +26,10 @@ pub(crate) fn asked_at<'a>(zone: &'a Zone, name: &Name, asked: QueryType) -> &'a
 pub(crate) fn is_there(zone: &Zone, name: &Name) -> bool
     ensures { result ≡ is_there (listing zone.now.records) name.now }
 {
-    // the proof needs that the records are in order
-    let _ = zone.records();
-    !zone.records_within(name).is_empty()
+    match locate(zone.records(), name.key()) {
+        Located::Node(_) => true,
+        Located::Between(_) => false,
+    }
 }
 
 /// Appends a copy of a record as one of another owner. The only error is out of memory.
@@ -101,7 +100,11 @@ fn negative_ttl(ttl: Ttl, rdata: &Data) -> Ttl
 }
 
 /// Appends a copy of an SOA with the TTL that it has in a negative answer. The only error is out of memory.
-fn push_negative_one(alloc: Global, rows: &mut Vec<Record>, rr: &Record) -> Result<(), AllocError>
+pub(crate) fn push_negative(
+    alloc: Global,
+    rows: &mut Vec<Record>,
+    rr: &Record,
+) -> Result<(), AllocError>
     ensures { IfOk result (λ _. rows.new.items ≡ rows.old.items ++ as_negative rr.now ∷ []) }
 {
     rows.push(Record {
@@ -109,19 +112,5 @@ fn push_negative_one(alloc: Global, rows: &mut Vec<Record>, rr: &Record) -> Resu
         ttl: negative_ttl(rr.ttl, &rr.rdata),
         rdata: rr.rdata.try_copy(alloc)?,
     })?;
-    Ok(())
-}
-
-/// Appends copies of SOA records with the TTL that they have in a negative answer. The only error is out of memory.
-pub(crate) fn push_negative(
-    alloc: Global,
-    rows: &mut Vec<Record>,
-    records: &[Record],
-) -> Result<(), AllocError>
-    ensures { IfOk result (λ _. rows.new.items ≡ rows.old.items ++ map as_negative records.now) }
-{
-    for record in records {
-        push_negative_one(alloc, rows, record)?;
-    }
     Ok(())
 }

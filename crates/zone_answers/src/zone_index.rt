@@ -3,6 +3,7 @@
 ghost use Rattle.std.specs.Prelude.{◌≡◌, IfOk};
 
 use crate::cut_names::top_cuts;
+use crate::enclosers::have_asterisks;
 use dns_names::Name;
 use std::alloc::{AllocError, Global};
 use std::marker::Model;
@@ -14,13 +15,17 @@ pub struct ZoneIndex {
     pub(crate) zone: Zone,
     // those that are below no other, in canonical order
     pub(crate) cuts: Vec<Name>,
+    // whether an owner has an octet `*`, without which there is no wildcard
+    pub(crate) asterisks: bool,
 }
 
 impl Model for ZoneIndex {
     ghost use Rattle.zone_core.specs.Zones.{ZoneOf};
     ghost use Rattle.zone_core.specs.Sets.{listing};
     ghost use Rattle.zone_core.specs.Codes.{zone_code};
+    ghost use Rattle.std.specs.Prelude.{◌≡◌};
     ghost use Rattle.zone_answers.specs.AnswerTests.{AreTopCuts};
+    ghost use Rattle.zone_answers.specs.Places.{have_asterisks};
 
     ghost Value = { ZoneOf };
 
@@ -28,7 +33,7 @@ impl Model for ZoneIndex {
 
     ghost view = { λ z. z.zone };
 
-    ghost invariant = { λ z. AreTopCuts z.zone.origin (listing z.zone.records) z.cuts.items };
+    ghost invariant = { λ z. AreTopCuts z.zone.origin (listing z.zone.records) z.cuts.items × (z.asterisks ≡ have_asterisks (listing z.zone.records)) };
 }
 
 impl ZoneIndex {
@@ -37,7 +42,12 @@ impl ZoneIndex {
         ensures { IfOk result (λ index. index ≡ zone) }
     {
         let cuts = top_cuts(alloc, &zone)?;
-        Ok(ZoneIndex { zone, cuts })
+        let asterisks = have_asterisks(zone.records());
+        Ok(ZoneIndex {
+            zone,
+            cuts,
+            asterisks,
+        })
     }
 
     /// The zone.

@@ -12,4 +12,4 @@ returns c =
     let zone = c.args.self.now in
     c.cut_over.ensures ∙ ap (find (λ cut. is_within c.args.name.now cut)) c.deref.ensures.value
     ∙ tops_over zone.origin (listing zone.records) c.self.inside.cuts.items
-    (subst (λ (z : ZoneOf). AreTopCuts z.origin (listing z.records) c.self.inside.cuts.items) c.self.view_is c.self.invariant) c.args.name.now
+    (subst (λ (z : ZoneOf). AreTopCuts z.origin (listing z.records) c.self.inside.cuts.items) c.self.view_is c.self.invariant.0) c.args.name.now
