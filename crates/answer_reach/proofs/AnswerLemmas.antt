@@ -1,6 +1,6 @@
 -- A question that the caller cannot reach is answered alike in each zone that it may make.
-use Rattle.std.proofs.Common.{◌≡◌, ◌≢◌, ◌⊎◌, ℕ, List, [], ◌∷◌, ◌++◌, map, length, ◌==◌, Bool, true, false, refl, sym, ap, subst, ◌∙◌, inl, inr}
-use Rattle.std.specs.List.{Contains, filter, flat_map}
+use Rattle.std.proofs.Common.{◌≡◌, ◌⊎◌, ℕ, List, [], ◌∷◌, ◌++◌, map, true, refl, sym, ap, subst, ◌∙◌, inl, inr}
+use Rattle.std.specs.List.{flat_map}
 use Rattle.std.proofs.lemmas.Bool.{false_from_ne_true}
 use Rattle.dns_names.specs.Labels.{IsWithin}
 use Rattle.dns_data.specs.declared.record.Record.{Record}
@@ -9,20 +9,18 @@ use Rattle.dns_data.specs.declared.record_type.RecordType.TheVariants as types
 use Rattle.dns_data.specs.declared.rdata.Data.{Data}
 use Rattle.dns_data.specs.declared.rdata.Data.TheVariants as variants
 use Rattle.dns_data.specs.Rdata.{type_of}
-use Rattle.dns_data.proofs.RecordOrderLemmas.{one_rank}
 use Rattle.grant_policy.specs.declared.rule.Rule.{Rule}
-use Rattle.zone_core.specs.Sets.{key_of, at, set_of, IsIn, InOrder}
+use Rattle.zone_core.specs.Sets.{key_of, at}
 use Rattle.zone_core.specs.Views.{AreOfZone}
 use Rattle.zone_core.proofs.RowLemmas.{order_is, InOrder-filter}
-use Rattle.zone_core.proofs.ZoneLemmas.{at_is}
-use Rattle.zone_core.proofs.MetLemmas.{Among, among_of, of_among}
+use Rattle.zone_core.proofs.MetLemmas.{Among, of_among}
 use Rattle.zone_answers.specs.declared.query_type.QueryType.{QueryType}
-use Rattle.zone_answers.specs.declared.query_type.QueryType.TheVariants.{Kept, Any, Other}
-use Rattle.zone_answers.specs.Answers.{Name, Exists, IsReferred, asked_at, answered_as, Found, Outside, Delegated, Missing, Alias, Listed, Again, Finds, WasAsked, Lead, Ends, AnswerOf, answer_with, IsAnswer, negative_ttl, as_negative, negative_soa, addresses_in, authority_in, additional_in}
+use Rattle.zone_answers.specs.declared.query_type.QueryType.TheVariants.{Kept}
+use Rattle.zone_answers.specs.Answers.{Name, IsReferred, asked_at, Found, Outside, Delegated, Missing, Alias, Listed, Again, Finds, Lead, Ends, AnswerOf, answer_with, IsAnswer, negative_ttl, as_negative, negative_soa, addresses_in, authority_in, additional_in}
 use Rattle.zone_answers.specs.AnswerChanges.{data_but_serial, but_serial, AreSame, Differs}
-use Rattle.zone_answers.proofs.LawLemmas.{row_in, one_answer, among_flat}
-use Rattle.answer_reach.specs.Reach.{may_change, may_come, MayExist, AddressMayChange, MayChange, IsReached}
-use Rattle.answer_reach.proofs.PossibleLemmas.{IsPossible, IsFixed, IsSerial, same_set, same_rows, found_among, asked_owner, owner_asked}
+use Rattle.zone_answers.proofs.LawLemmas.{row_in, one_answer}
+use Rattle.answer_reach.specs.Reach.{may_change, may_come, MayExist, MayChange, IsReached}
+use Rattle.answer_reach.proofs.PossibleLemmas.{IsPossible, IsFixed, same_set, same_rows, found_among, asked_owner, owner_asked}
 use Rattle.answer_reach.proofs.FoundLemmas.{finds_moves, referral_fixed, addresses_fixed}
 
 -- ---- the SOA of negative answers

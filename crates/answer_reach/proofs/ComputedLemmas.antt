@@ -1,15 +1,13 @@
 -- What is computed finds each question that the caller reaches.
-use Rattle.std.proofs.Common.{◌≡◌, ◌≢◌, ◌⊎◌, ℕ, ◌+◌, ◌≤◌, List, [], ◌∷◌, ◌++◌, length, Bool, true, false, cond, not, ◌&&◌, ◌||◌, ◌==◌, nat_lt, if◌then◌else◌, Option, Some, None, refl, sym, ap, subst, ◌∙◌, inl, inr, arith}
-use Rattle.std.specs.List.{Contains, list_any, filter, flat_map}
-use Rattle.std.proofs.lemmas.Bool.{and_parts, eqb-true, false_from_ne_true, true_from_ne_false}
-use Rattle.std.proofs.lemmas.Bool.Decides.{nat_tests}
-use Rattle.dns_names.specs.Labels.{IsWithin, IsBelow, is_within, wire_len}
+use Rattle.std.proofs.Common.{◌≡◌, ◌≢◌, ◌⊎◌, ℕ, List, [], ◌∷◌, ◌++◌, length, Bool, true, false, cond, not, ◌&&◌, ◌||◌, ◌==◌, Option, Some, None, refl, sym, ap, subst, ◌∙◌, inl, inr, arith}
+use Rattle.std.specs.List.{list_any, filter, flat_map}
+use Rattle.std.proofs.lemmas.Bool.{and_parts, eqb-true, false_from_ne_true}
+use Rattle.dns_names.specs.Labels.{IsWithin, IsBelow, is_within}
 use Rattle.dns_names.specs.Order.{same_name}
 use Rattle.dns_names.proofs.NameLemmas.{is_within-Decides}
 use Rattle.dns_data.specs.declared.record.Record.{Record}
 use Rattle.dns_data.specs.declared.record_type.RecordType.{RecordType}
 use Rattle.dns_data.specs.declared.record_type.RecordType.TheVariants as types
-use Rattle.dns_data.specs.declared.rdata.Data.{Data}
 use Rattle.dns_data.specs.declared.rdata.Data.TheVariants as variants
 use Rattle.dns_data.specs.Rdata.{type_of}
 use Rattle.dns_data.specs.Types.{kept_types}
@@ -27,12 +25,12 @@ use Rattle.zone_core.specs.Effects.{is_guarded}
 use Rattle.zone_core.specs.Views.{AreOfZone}
 use Rattle.zone_core.specs.Delegations.{AreNamesOf, IsCutAt, is_below}
 use Rattle.zone_core.proofs.SetLemmas.{name_is, name_self, name_other, by_cases}
-use Rattle.zone_core.proofs.ZoneLemmas.{both_true, no}
-use Rattle.zone_core.proofs.MetLemmas.{Among, among_of, of_among, any_is, is_any, among_append}
+use Rattle.zone_core.proofs.ZoneLemmas.{both_true}
+use Rattle.zone_core.proofs.MetLemmas.{Among, among_of, of_among, is_any}
 use Rattle.zone_core.proofs.BelowLemmas.{no_test, within_itself, within_within, below-Decides}
 use Rattle.zone_answers.specs.declared.query_type.QueryType.{QueryType}
-use Rattle.zone_answers.specs.declared.query_type.QueryType.TheVariants.{Kept, Any, Other}
-use Rattle.zone_answers.specs.Answers.{Name, asterisk, Exists, IsReferred, IsOwn, asked_at}
+use Rattle.zone_answers.specs.declared.query_type.QueryType.TheVariants.{Kept}
+use Rattle.zone_answers.specs.Answers.{Name, asterisk, Exists, IsOwn, asked_at}
 use Rattle.zone_answers.specs.AnswerTests.{is_there, cut_over}
 use Rattle.zone_answers.specs.ChangeTests.{up_to}
 use Rattle.zone_answers.proofs.SourceLemmas.{there-Decides}
@@ -40,16 +38,16 @@ use Rattle.zone_answers.proofs.CutLemmas.{in_turn, within_both, within_or_is, on
 use Rattle.zone_answers.proofs.KnownLemmas.{flat_among}
 use Rattle.zone_answers.proofs.LawLemmas.{among_flat}
 use Rattle.answer_reach.specs.declared.reach_map.ReachMap.{ReachMap}
-use Rattle.answer_reach.specs.Turns.{delegates, action_for, may}
+use Rattle.answer_reach.specs.Turns.{action_for, may}
 use Rattle.answer_reach.specs.Reach.{is_type, matters, remains, are_kept_out, has_place, may_come, may_go, may_change, MayUpdate, RecordsMayChange, MayExist, must_exist, StaysCut, AddressMayChange, CutMayChange, ReferralMayChange, OwnMayChange, WildcardMayChange, MayChange}
 use Rattle.answer_reach.specs.ReachedGroups.{IsNamed}
 use Rattle.answer_reach.specs.ReachTests.{covers_under, decision_under, action_under, may_under, has_name, within_any, below_any, is_cut_off, is_long, named, comes_at, comes_under, updates_at, updates_under, updates, is_cut, stays_cut, server_may_change, cut_may_change, arising_from, staying_from, opens, IsMap, may_exist, child_may_exist, records_may_change, own_may_change, wildcard_may_change, wildcards_may_change, may_change_at, sources_under, may_change_under}
 use Rattle.answer_reach.proofs.PossibleLemmas.{first, second, owner_asked, asked_owner, found_among}
-use Rattle.answer_reach.proofs.NamedLemmas.{all_kept, some_kept, has_is, is_has, or_is, within_is, is_within_any, below_is, is_below_any, cut_off_is, is_cut_off_any, up_to_is, is_up_to, is_known, known_is, known_above, cover}
+use Rattle.answer_reach.proofs.NamedLemmas.{some_kept, has_is, is_has, or_is, within_is, is_within_any, is_below_any, cut_off_is, is_cut_off_any, up_to_is, is_up_to, is_known, known_is, known_above, cover}
 use Rattle.answer_reach.proofs.MadeLemmas.{is_one}
 
 -- two tests of which each passes where the other does
-both_ways : (a b : Bool) → (a ≡ true → b ≡ true) → (b ≡ true → a ≡ true) → a ≡ b
+pub both_ways : (a b : Bool) → (a ≡ true → b ≡ true) → (b ≡ true → a ≡ true) → a ≡ b
 both_ways true b there back = sym (there refl)
 both_ways false true there back = back refl
 both_ways false false there back = refl
@@ -65,7 +63,7 @@ opened : (b : Bool) → not b ≡ true → b ≡ false
 opened true e = absurd cc
 opened false e = refl
 
-some_there : (xs : List Record) → not (length xs == 0) ≡ true → (r : Record) × Among r xs
+pub some_there : (xs : List Record) → not (length xs == 0) ≡ true → (r : Record) × Among r xs
 some_there [] e = absurd cc
 some_there (r ∷ rs) e = (r, inl refl)
 
@@ -73,7 +71,7 @@ is_there_some : (xs : List Record) (r : Record) → Among r xs → not (length x
 is_there_some [] r a = absurd a
 is_there_some (x ∷ xs) r a = ap not (false_from_ne_true (length (x ∷ xs) == 0) (λ e. absurd (omega (arith, eqb-true (length (x ∷ xs)) 0 e))))
 
-passes_filter : (p : Name → Bool) (xs : List Name) (x : Name) → Among x xs → p x ≡ true → Among x (filter p xs)
+pub passes_filter : (p : Name → Bool) (xs : List Name) (x : Name) → Among x xs → p x ≡ true → Among x (filter p xs)
 passes_filter p [] x a e = absurd a
 passes_filter p (y ∷ ys) x a e = by_test (p y) refl (elim a [ inl same ↦ inl same | inr later ↦ inr (passes_filter p ys x later e) ])
   where
@@ -81,7 +79,7 @@ passes_filter p (y ∷ ys) x a e = by_test (p y) refl (elim a [ inl same ↦ inl
     by_test true t here = here
     by_test false t here = (elim here [ inl same ↦ absurd (no_test (p y) (ap p (sym same) ∙ e) t) | inr later ↦ later ])
 
-filter_passes : (p : Name → Bool) (xs : List Name) (x : Name) → Among x (filter p xs) → Among x xs × (p x ≡ true)
+pub filter_passes : (p : Name → Bool) (xs : List Name) (x : Name) → Among x (filter p xs) → Among x xs × (p x ≡ true)
 filter_passes p [] x a = absurd a
 filter_passes p (y ∷ ys) x a = by_test (p y) refl a (filter_passes p ys x)
   where

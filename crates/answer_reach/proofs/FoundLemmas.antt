@@ -1,26 +1,22 @@
 -- What is found for a name is the same in each zone that the caller may make, where it may not change.
-use Rattle.std.proofs.Common.{◌≡◌, ◌≢◌, ◌⊎◌, ℕ, List, [], ◌∷◌, ◌++◌, Bool, true, false, Option, Some, None, refl, sym, ap, subst, ◌∙◌, inl, inr}
-use Rattle.std.specs.List.{Contains}
+use Rattle.std.proofs.Common.{◌≡◌, ◌≢◌, ◌⊎◌, ℕ, List, [], ◌∷◌, Bool, true, false, refl, sym, subst, ◌∙◌, inl, inr}
 use Rattle.std.proofs.lemmas.Bool.{false_from_ne_true}
 use Rattle.dns_names.specs.Labels.{IsWithin, IsBelow, is_within}
 use Rattle.dns_names.proofs.NameLemmas.{is_within-Decides}
 use Rattle.dns_data.specs.declared.record.Record.{Record}
-use Rattle.dns_data.specs.declared.record_type.RecordType.{RecordType}
 use Rattle.dns_data.specs.declared.record_type.RecordType.TheVariants as types
-use Rattle.dns_data.specs.Rdata.{type_of}
 use Rattle.grant_policy.specs.declared.rule.Rule.{Rule}
-use Rattle.zone_core.specs.Sets.{InOrder}
 use Rattle.zone_core.specs.Delegations.{IsCutAt}
 use Rattle.zone_core.proofs.SetLemmas.{by_cases}
-use Rattle.zone_core.proofs.MetLemmas.{Among, among_of, of_among}
+use Rattle.zone_core.proofs.MetLemmas.{among_of, of_among}
 use Rattle.zone_core.proofs.BelowLemmas.{no_test, within_within}
 use Rattle.zone_answers.specs.declared.query_type.QueryType.{QueryType}
 use Rattle.zone_answers.specs.declared.query_type.QueryType.TheVariants.{Kept, Any, Other}
-use Rattle.zone_answers.specs.Answers.{Name, asterisk, Exists, IsWildcardOver, IsSourceOf, IsCutOver, IsReferred, IsOwn, IsFollowed, asks_alias, asked_at, Found, Outside, Delegated, Missing, Alias, Listed, Again, Finds}
-use Rattle.zone_answers.proofs.SourceLemmas.{there-Decides, exists_above}
+use Rattle.zone_answers.specs.Answers.{Name, asterisk, Exists, IsWildcardOver, IsSourceOf, IsReferred, IsOwn, IsFollowed, Found, Outside, Delegated, Missing, Alias, Listed, Again, Finds}
+use Rattle.zone_answers.proofs.SourceLemmas.{exists_above}
 use Rattle.zone_answers.proofs.CutLemmas.{within_both}
-use Rattle.answer_reach.specs.Reach.{matters, may_change, may_come, MayUpdate, RecordsMayChange, MayExist, must_exist, StaysCut, CutMayChange, AddressMayChange, ReferralMayChange, OwnMayChange, WildcardMayChange}
-use Rattle.answer_reach.proofs.PossibleLemmas.{IsPossible, IsFixed, IsSerial, moves, same_asked, may_there, must_there, fixed_by, first, second}
+use Rattle.answer_reach.specs.Reach.{matters, may_change, RecordsMayChange, MayExist, must_exist, StaysCut, AddressMayChange, ReferralMayChange, OwnMayChange, WildcardMayChange}
+use Rattle.answer_reach.proofs.PossibleLemmas.{IsPossible, IsFixed, moves, same_asked, may_there, must_there, fixed_by, second}
 
 ns_not_soa : types.Ns ≢ types.Soa
 ns_not_soa e = absurd cc

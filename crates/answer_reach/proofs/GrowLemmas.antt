@@ -1,5 +1,5 @@
 -- Lists that loops make, and names that are searched.
-use Rattle.std.proofs.Common.{◌≡◌, ℕ, ◌+◌, ◌<◌, ◌≤◌, List, [], ◌∷◌, ◌++◌, length, get_or, take, Bool, true, false, cond, ◌||◌, ◌==◌, Option, Some, None, Result, Ok, Err, is_ok, refl, sym, ap, subst, ◌∙◌, arith, append-nil, inl, inr}
+use Rattle.std.proofs.Common.{◌≡◌, ℕ, ◌+◌, ◌<◌, List, [], ◌∷◌, ◌++◌, length, get_or, take, Bool, true, false, cond, ◌||◌, ◌==◌, Some, None, Result, Ok, Err, is_ok, refl, sym, ap, subst, ◌∙◌, arith, append-nil, inl, inr}
 use Rattle.std.specs.declared.cmp.Ordering.TheVariants.{Less, Equal, Greater}
 use Rattle.std.specs.Ordering.{is_eq}
 use Rattle.std.specs.Cmp.{tied_itself}
@@ -132,6 +132,12 @@ type_same a b = same_from_decides (type_number a == type_number b) (rank_of a ==
 pub within_has : (names : List Name) (name : Name) → has_name names name ≡ true → within_any names name ≡ true
 within_has names [] e = e
 within_has names (label ∷ labels) e = ap (λ b. b || within_any names labels) e
+
+-- a name is within none of no names
+pub within_none : (names : List Name) (name : Name) → length names ≡ 0 → false ≡ within_any names name
+within_none [] [] e = refl
+within_none [] (label ∷ labels) e = within_none [] labels e
+within_none (n ∷ names) name e = absurd (omega (arith, e))
 
 -- the alias below a name that exists
 pub alias_there : (rs : List Record) (above : Name) → is_there rs above ≡ true → alias_by rs above ≡ alias_under rs above

@@ -8,3 +8,6 @@ pub mod ComputedLemmas
 pub mod ReachedLemmas
 pub mod RowOrderLemmas
 pub mod WildcardLemmas
+pub mod RightsLemmas
+pub mod PlaceLemmas
+pub mod SkippedLemmas

@@ -1,10 +1,10 @@
 -- What permitted updates make of a zone is what the caller may make of it.
 use Rattle.std.proofs.Common.{◌≡◌, ◌≢◌, ◌⊎◌, ◌↔◌, ℕ, List, [], ◌∷◌, map, length, Bool, true, false, cond, not, ◌&&◌, ◌||◌, ◌==◌, Option, Some, None, refl, sym, ap, subst, ◌∙◌, inl, inr, arith}
-use Rattle.std.specs.List.{AllByRecursion, list_any}
+use Rattle.std.specs.List.{AllByRecursion}
 use Rattle.std.specs.FinMap.{get, find, entries, get-entries}
 use Rattle.std.proofs.lemmas.Bool.{and_parts, eqb-true, false_from_ne_true, true_from_ne_false}
 use Rattle.std.proofs.lemmas.Bool.Decides.{Decides-eqb}
-use Rattle.dns_names.specs.Labels.{IsWithin, IsBelow, is_within}
+use Rattle.dns_names.specs.Labels.{IsWithin, is_within}
 use Rattle.dns_names.specs.Order.{same_name}
 use Rattle.dns_names.proofs.NameLemmas.{is_within-Decides}
 use Rattle.dns_data.specs.declared.record.Record.{Record}
@@ -16,26 +16,24 @@ use Rattle.dns_data.specs.Rdata.{type_of}
 use Rattle.dns_data.specs.contracts.rdata.DataPartialEq.TheImpl as of_data
 use Rattle.dns_data.proofs.RecordOrderLemmas.{one_rank}
 use Rattle.dns_data.proofs.SameLemmas.{data_decides}
-use Rattle.grant_policy.specs.declared.action.Action.{Action}
 use Rattle.grant_policy.specs.declared.action.Action.TheVariants as action
 use Rattle.grant_policy.specs.declared.rule.Rule.{Rule}
 use Rattle.zone_core.specs.declared.update.Operation.{Operation}
 use Rattle.zone_core.specs.declared.update.Operation.TheVariants.{Add, DeleteRrset, DeleteName, DeleteRecord}
-use Rattle.zone_core.specs.Sets.{Key, Records, key_cmp, key_of, rank_of, listing, set_of, IsIn, InOrder, part, has, at, at_name}
+use Rattle.zone_core.specs.Sets.{Key, Records, key_cmp, key_of, rank_of, listing, IsIn, part, has, at, at_name}
 use Rattle.zone_core.specs.Zones.{ZoneOf, IsZone, AreKept, first_of, soa_at}
 use Rattle.zone_core.specs.Views.{AreOfZone}
-use Rattle.zone_core.specs.Updates.{UpdateOf, IsUpdate, ActsWithin, acted_name}
+use Rattle.zone_core.specs.Updates.{UpdateOf, acted_name}
 use Rattle.zone_core.specs.Effects.{is_guarded, next_data, next_version, zone_after}
-use Rattle.zone_core.specs.Accounts.{Stands, IsIgnoredAs, IsIgnored, IsKept, Takes, TakesTtl, Puts, Makes, AllMake, IsNextOf, IsAdvancedTo, IsMadeBy}
+use Rattle.zone_core.specs.Accounts.{Stands, IsIgnoredAs, IsIgnored, IsKept, Takes, Puts, Makes, AllMake, IsNextOf, IsAdvancedTo}
 use Rattle.zone_core.proofs.SetLemmas.{name_is, name_self, key_self, by_cases, some_found, none_there, found_of_part, same_sets}
-use Rattle.zone_core.proofs.ZoneLemmas.{at_is, at_has, both_true, no, kind}
+use Rattle.zone_core.proofs.ZoneLemmas.{at_is, at_has, both_true, no}
 use Rattle.zone_core.proofs.ChangedLemmas.{listed}
 use Rattle.zone_core.proofs.VersionLemmas.{updates_keep}
 use Rattle.zone_core.proofs.MakeLemmas.{updates_make}
-use Rattle.zone_core.proofs.MetLemmas.{Among, among_of, of_among, any_is, is_any}
+use Rattle.zone_core.proofs.MetLemmas.{Among, any_is}
 use Rattle.zone_core.proofs.BelowLemmas.{no_test}
-use Rattle.zone_answers.specs.declared.query_type.QueryType.{QueryType}
-use Rattle.zone_answers.specs.declared.query_type.QueryType.TheVariants.{Kept, Any, Other}
+use Rattle.zone_answers.specs.declared.query_type.QueryType.TheVariants.{Kept, Any}
 use Rattle.zone_answers.specs.Answers.{Name, asked_at}
 use Rattle.zone_answers.specs.AnswerChanges.{data_but_serial, but_serial}
 use Rattle.zone_answers.specs.ChangeTests.{same_whole}
@@ -43,9 +41,8 @@ use Rattle.zone_answers.proofs.SamenessLemmas.{whole_decides}
 use Rattle.zone_answers.proofs.SourceLemmas.{among_filter}
 use Rattle.zone_answers.proofs.LawLemmas.{row_in, of_zone}
 use Rattle.answer_reach.specs.Turns.{may, IsDeletedWith, IsPermittedOperation, IsPermitted, ComesBy, CanMake}
-use Rattle.answer_reach.specs.Reach.{is_type, are_apart, remains, are_kept_out, has_place, may_come, may_go, may_change, MayUpdate}
+use Rattle.answer_reach.specs.Reach.{is_type, are_apart, remains, are_kept_out, has_place, may_come, may_change, MayUpdate}
 use Rattle.answer_reach.proofs.PossibleLemmas.{found_among, asked_owner, first, second, Possible, IsPossible, IsSerial}
-use Rattle.answer_reach.proofs.AnswerLemmas.{one_soa}
 
 -- ---- what is in a set
 

@@ -1,5 +1,5 @@
 -- Names that are looked up, and those that are known.
-use Rattle.std.proofs.Common.{◌≡◌, ◌≢◌, ◌⊎◌, ℕ, List, [], ◌∷◌, ◌++◌, length, Bool, true, false, cond, not, ◌&&◌, ◌||◌, refl, sym, ap, subst, ◌∙◌, inl, inr, arith}
+use Rattle.std.proofs.Common.{◌≡◌, ◌≢◌, ◌⊎◌, ℕ, List, [], ◌∷◌, ◌++◌, length, Bool, true, false, cond, ◌||◌, refl, sym, ap, subst, inl, inr, arith}
 use Rattle.std.specs.List.{list_any, flat_map}
 use Rattle.dns_names.specs.Labels.{IsWithin, IsBelow, is_within}
 use Rattle.dns_names.specs.Order.{same_name}
@@ -16,11 +16,11 @@ use Rattle.zone_core.proofs.SetLemmas.{name_is, name_self, by_cases}
 use Rattle.zone_core.proofs.MetLemmas.{Among, among_of, of_among, any_is, is_any, among_append}
 use Rattle.zone_core.proofs.BelowLemmas.{no_test, within_itself, within_within}
 use Rattle.zone_answers.specs.declared.query_type.QueryType.{QueryType}
-use Rattle.zone_answers.specs.declared.query_type.QueryType.TheVariants.{Kept, Any, Other}
-use Rattle.zone_answers.specs.Answers.{Name, Exists}
+use Rattle.zone_answers.specs.declared.query_type.QueryType.TheVariants.{Kept}
+use Rattle.zone_answers.specs.Answers.{Name}
 use Rattle.zone_answers.specs.AnswerTests.{is_ds}
 use Rattle.zone_answers.specs.ChangeTests.{up_to}
-use Rattle.zone_answers.proofs.CutLemmas.{within_both, in_turn, within_root, within_or_is, one_more}
+use Rattle.zone_answers.proofs.CutLemmas.{within_both, within_root, within_or_is, one_more}
 use Rattle.zone_answers.proofs.KnownLemmas.{flat_among}
 use Rattle.zone_answers.proofs.LawLemmas.{among_flat}
 use Rattle.answer_reach.specs.ReachedGroups.{IsNamed}

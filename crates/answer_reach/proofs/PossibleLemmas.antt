@@ -1,6 +1,6 @@
 -- What a zone that the caller can make has in common with the zone before.
-use Rattle.std.proofs.Common.{◌≡◌, ◌≢◌, ◌⊎◌, ℕ, List, [], ◌∷◌, Bool, true, false, cond, not, ◌&&◌, ◌||◌, ◌==◌, length, Option, Some, None, refl, sym, ap, subst, ◌∙◌, inl, inr}
-use Rattle.std.specs.List.{AllByRecursion, Contains, filter}
+use Rattle.std.proofs.Common.{◌≡◌, ◌⊎◌, ℕ, List, [], ◌∷◌, Bool, true, false, ◌&&◌, ◌||◌, Option, Some, None, refl, sym, ap, subst, ◌∙◌, inl, inr}
+use Rattle.std.specs.List.{AllByRecursion, filter}
 use Rattle.std.specs.FinMap.{get}
 use Rattle.std.proofs.lemmas.Bool.{and_parts, false_from_ne_true}
 use Rattle.std.proofs.lemmas.Bool.Decides.{Decides-eqb}
@@ -12,13 +12,11 @@ use Rattle.dns_data.specs.declared.record_type.RecordType.TheVariants as types
 use Rattle.dns_data.specs.Rdata.{type_of}
 use Rattle.dns_data.proofs.RecordOrderLemmas.{one_rank}
 use Rattle.grant_policy.specs.declared.rule.Rule.{Rule}
-use Rattle.zone_core.specs.Sets.{rank_of, Key, Records, key_of, at, at_name, set_of, listing, IsIn, InOrder}
-use Rattle.zone_core.specs.Views.{AreOfZone}
-use Rattle.zone_core.specs.Delegations.{IsCutAt}
-use Rattle.zone_core.proofs.SetLemmas.{name_is, name_self, same_sets}
+use Rattle.zone_core.specs.Sets.{rank_of, Key, Records, key_of, at, at_name, set_of, listing, InOrder}
+use Rattle.zone_core.proofs.SetLemmas.{name_is, same_sets}
 use Rattle.zone_core.proofs.RowLemmas.{get-set_of, listing_of, found_has, found_key, InOrder-filter}
 use Rattle.zone_core.proofs.ZoneLemmas.{at_is, at_has}
-use Rattle.zone_core.proofs.MetLemmas.{Among, among_of, of_among, any_is, is_any}
+use Rattle.zone_core.proofs.MetLemmas.{Among, among_of, of_among, any_is}
 use Rattle.zone_core.proofs.BelowLemmas.{no_test, within_within}
 use Rattle.zone_answers.specs.declared.query_type.QueryType.{QueryType}
 use Rattle.zone_answers.specs.declared.query_type.QueryType.TheVariants.{Kept, Any, Other}
@@ -26,7 +24,7 @@ use Rattle.zone_answers.specs.Answers.{Name, Exists, asked_at}
 use Rattle.zone_answers.specs.AnswerChanges.{but_serial}
 use Rattle.zone_answers.proofs.SourceLemmas.{among_filter}
 use Rattle.zone_answers.proofs.LawLemmas.{row_in}
-use Rattle.answer_reach.specs.Reach.{matters, is_type, remains, may_come, may_go, may_change, MayUpdate, RecordsMayChange, MayExist, must_exist}
+use Rattle.answer_reach.specs.Reach.{matters, is_type, remains, may_come, may_change, MayUpdate, RecordsMayChange, MayExist, must_exist}
 
 -- ---- rows with the same records
 

@@ -1,6 +1,6 @@
 -- Each question that the caller reaches is in a row.
-use Rattle.std.proofs.Common.{◌≡◌, ◌≢◌, ◌⊎◌, ℕ, ◌≤◌, List, [], ◌∷◌, ◌++◌, map, length, Bool, true, false, cond, not, ◌&&◌, ◌||◌, nat_lt, Option, Some, None, refl, sym, ap, subst, ◌∙◌, inl, inr, append-nil, append_assoc, arith}
-use Rattle.std.specs.List.{Contains, list_any, filter, flat_map}
+use Rattle.std.proofs.Common.{◌≡◌, ◌⊎◌, ℕ, ◌≤◌, List, [], ◌∷◌, ◌++◌, map, Bool, true, false, cond, not, nat_lt, Option, Some, None, refl, sym, ap, subst, ◌∙◌, inl, inr, append-nil, append_assoc, arith}
+use Rattle.std.specs.List.{Contains, filter}
 use Rattle.std.proofs.lemmas.Bool.{false_from_ne_true, true_from_ne_false}
 use Rattle.std.proofs.lemmas.Bool.Decides.{nat_tests}
 use Rattle.dns_names.specs.Labels.{IsWithin, is_within, wire_len}
@@ -9,19 +9,17 @@ use Rattle.dns_data.specs.declared.record.Record.{Record}
 use Rattle.dns_data.specs.declared.record_type.RecordType.TheVariants as types
 use Rattle.dns_data.specs.declared.rdata.Data.{Data}
 use Rattle.dns_data.specs.declared.rdata.Data.TheVariants as variants
-use Rattle.dns_data.specs.Rdata.{type_of}
 use Rattle.grant_policy.specs.declared.rule.Rule.{Rule}
 use Rattle.zone_core.specs.Sets.{key_of, listing}
 use Rattle.zone_core.specs.Zones.{ZoneOf, IsZone, first_of}
 use Rattle.zone_core.specs.Views.{AreOfZone}
 use Rattle.zone_core.specs.Delegations.{AreNamesOf}
-use Rattle.zone_core.proofs.SetLemmas.{by_cases}
 use Rattle.zone_core.proofs.ZoneLemmas.{both_true}
 use Rattle.zone_core.proofs.MetLemmas.{Among, among_of, of_among, is_any, among_append}
 use Rattle.zone_core.proofs.BelowLemmas.{no_test, within_within, within_itself}
 use Rattle.zone_answers.specs.declared.query_type.QueryType.{QueryType}
 use Rattle.zone_answers.specs.declared.query_type.QueryType.TheVariants.{Kept, Any, Other}
-use Rattle.zone_answers.specs.Answers.{Name, Exists, asterisk, asks_alias, asked_at, answered_as, answer_in, Found, Outside, Delegated, Missing, Alias, Listed, Again, Finds, IsFollowed, WasAsked, Lead, Ends, IsAnswer, IsOwn, AnswerOf}
+use Rattle.zone_answers.specs.Answers.{Name, Exists, asterisk, asks_alias, asked_at, answered_as, answer_in, Found, Outside, Delegated, Missing, Alias, Listed, Again, Finds, WasAsked, Lead, Ends, AnswerOf}
 use Rattle.zone_answers.specs.AnswerTests.{is_there, wildcard_over, if_there, cut_over, followed_at, found_by, found_from, found_at, answer_to}
 use Rattle.zone_answers.specs.AnswerChanges.{Differs, query_types}
 use Rattle.zone_answers.specs.ChangeTests.{wildcard_under, found_below_cut, found_under}
@@ -37,7 +35,7 @@ use Rattle.answer_reach.specs.declared.reached.ReachedNames.TheVariants.{At, Oth
 use Rattle.answer_reach.specs.declared.reached.ReachedAnswers.{ReachedAnswers}
 use Rattle.answer_reach.specs.Turns.{CanMake}
 use Rattle.answer_reach.specs.Reach.{MayChange, IsReached}
-use Rattle.answer_reach.specs.ReachedGroups.{IsNamed, IsIn, IsListed}
+use Rattle.answer_reach.specs.ReachedGroups.{IsIn, IsListed}
 use Rattle.answer_reach.specs.ReachTests.{has_name, within_any, is_long, named, IsMap, may_change_at, may_change_under, target_list, targets, asked_in_turn, target_in, alias_by, alias_under, may_change_inside, reaches, reaches_target, reaches_by, reaches_under, reaches_in, types_in, RowOf, row_of, if_types, row_for, rows_at, rows_for, AreRowsOf}
 use Rattle.answer_reach.proofs.PossibleLemmas.{first, second, itself, owner_asked}
 use Rattle.answer_reach.proofs.NamedLemmas.{has_is, is_has, is_known, known_is, known_above, cover, is_within_any}
@@ -135,7 +133,7 @@ module _ (rs : List Record) (asked : QueryType) (fits : (r : Record) → Contain
       by_test true f = by_alias (followed_at rs (asterisk ∷ above) asked) refl f
       by_test false f = absurd cc
 
-  alias_is : (above : Name) (r : Record) → found_from rs asked (if_there rs (wildcard_under rs above)) ≡ Alias r → alias_under rs above ≡ Some r
+  pub alias_is : (above : Name) (r : Record) → found_from rs asked (if_there rs (wildcard_under rs above)) ≡ Alias r → alias_under rs above ≡ Some r
   alias_is [] r e = by_test (is_there rs []) e
     where
       by_test : (b : Bool) → found_from rs asked (if_there rs (cond b (Some (asterisk ∷ [])) None)) ≡ Alias r → cond b (alias_by rs []) None ≡ Some r

@@ -11,17 +11,16 @@ use Rattle.std.proofs.lemmas.Grind.{flat_map-append}
 use Rattle.dns_names.specs.Order.{canonical_cmp, canonical_total}
 use Rattle.dns_data.specs.declared.record.Record.{Record}
 use Rattle.grant_policy.specs.declared.rule.Rule.{Rule}
-use Rattle.zone_core.specs.Delegations.{AreNamesOf}
 use Rattle.zone_core.proofs.MetLemmas.{Among, among_of, among_append}
 use Rattle.zone_answers.specs.declared.query_type.QueryType.{QueryType}
-use Rattle.zone_answers.specs.AnswerChanges.{query_types, AreTypes}
+use Rattle.zone_answers.specs.AnswerChanges.{AreTypes}
 use Rattle.zone_answers.specs.Answers.{Name}
 use Rattle.answer_reach.specs.declared.reach_map.ReachMap.{ReachMap}
 use Rattle.answer_reach.specs.declared.reached.ReachedNames.{ReachedNames}
 use Rattle.answer_reach.specs.declared.reached.ReachedNames.TheVariants.{At, Others}
 use Rattle.answer_reach.specs.declared.reached.ReachedAnswers.{ReachedAnswers}
 use Rattle.answer_reach.specs.ReachedGroups.{name_in, place_in, group_cmp, IsGroup}
-use Rattle.answer_reach.specs.ReachTests.{RowOf, row_of, named, reaches_in, types_in, if_types, row_for, rows_at, rows_for, AreRowsOf}
+use Rattle.answer_reach.specs.ReachTests.{RowOf, row_of, reaches_in, types_in, if_types, row_for, rows_for, AreRowsOf}
 use Rattle.answer_reach.proofs.NamedLemmas.{known_is}
 
 -- ---- lists

@@ -1,3 +1,4 @@
+pub mod Rights
 pub mod Turns
 pub mod Reach
 pub mod ReachedGroups

@@ -1,13 +1,11 @@
 -- What a caller can change of what is answered, by any updates that a policy lets it make from a zone on.
 use Rattle.std.specs.Prelude.{◌≡◌, ◌⊎◌, ℕ, List, [], ◌∷◌, ◌++◌, length, Bool, true, false, not, ◌&&◌, ◌||◌, ◌==◌}
-use Rattle.std.specs.List.{Contains, list_any}
+use Rattle.std.specs.List.{list_any}
 use Rattle.dns_names.specs.Labels.{IsWithin, IsBelow, is_within}
 use Rattle.dns_names.specs.Order.{same_name}
 use Rattle.dns_data.specs.declared.record.Record.{Record}
 use Rattle.dns_data.specs.declared.record_type.RecordType.{RecordType}
 use Rattle.dns_data.specs.declared.record_type.RecordType.TheVariants as types
-use Rattle.dns_data.specs.declared.rdata.Data.{Data}
-use Rattle.dns_data.specs.declared.rdata.Data.TheVariants as variants
 use Rattle.dns_data.specs.Rdata.{type_of}
 use Rattle.grant_policy.specs.declared.action.Action.{Action}
 use Rattle.grant_policy.specs.declared.action.Action.TheVariants as action

@@ -1,5 +1,5 @@
 -- The same as definitions that compute.
-use Rattle.std.specs.Prelude.{◌≡◌, ℕ, List, map, [], ◌∷◌, ◌++◌, length, Bool, ◌&&◌, ◌||◌, ◌==◌, not, nat_lt, true, false, if◌then◌else◌, Option, Some, None}
+use Rattle.std.specs.Prelude.{◌≡◌, ℕ, List, map, [], ◌∷◌, ◌++◌, length, Bool, ◌&&◌, ◌||◌, ◌==◌, not, nat_lt, true, false, if◌then◌else◌, Option, Some, None, is_some, bytes_eq}
 use Rattle.std.specs.List.{list_any, filter, flat_map}
 use Rattle.std.specs.List.Sorted.{IsSorted}
 use Rattle.dns_names.specs.Labels.{is_within, wire_len}
@@ -9,6 +9,7 @@ use Rattle.dns_data.specs.declared.record_type.RecordType.{RecordType}
 use Rattle.dns_data.specs.declared.record_type.RecordType.TheVariants as types
 use Rattle.dns_data.specs.declared.rdata.Data.{Data}
 use Rattle.dns_data.specs.declared.rdata.Data.TheVariants as variants
+use Rattle.dns_data.specs.Rdata.{type_of}
 use Rattle.dns_data.specs.Types.{kept_types}
 use Rattle.grant_policy.specs.declared.action.Action.{Action}
 use Rattle.grant_policy.specs.declared.action.Action.TheVariants as action
@@ -17,19 +18,21 @@ use Rattle.grant_policy.specs.declared.scope.Scope.{Scope}
 use Rattle.grant_policy.specs.declared.scope.Scope.TheVariants as scopes
 use Rattle.grant_policy.specs.Isolated.{question}
 use Rattle.grant_policy.specs.Rules.{Question, is_of, has, same_type, same_action}
-use Rattle.grant_policy.specs.Decisions.{Verdict, granted, denied, decided, is_granted}
-use Rattle.zone_core.specs.Delegations.{is_below, AreNamesOf}
+use Rattle.grant_policy.specs.Decisions.{Verdict, denied, decided, is_granted}
+use Rattle.zone_core.specs.Delegations.{is_below, AreNamesOf, cut_owners}
 use Rattle.zone_core.specs.Zones.{first_of}
 use Rattle.zone_answers.specs.declared.query_type.QueryType.{QueryType}
-use Rattle.zone_answers.specs.declared.query_type.QueryType.TheVariants.{Kept, Any, Other}
+use Rattle.zone_answers.specs.declared.query_type.QueryType.TheVariants.{Kept, Any}
 use Rattle.zone_answers.specs.Answers.{Name, asterisk, asked_at, asks_alias, AnswerOf}
 use Rattle.zone_answers.specs.AnswerTests.{is_there, is_ds, answer_to}
 use Rattle.zone_answers.specs.AnswerChanges.{query_types}
 use Rattle.zone_answers.specs.ChangeTests.{up_to}
 use Rattle.answer_reach.specs.declared.reach_map.ReachMap.{ReachMap}
+use Rattle.answer_reach.specs.declared.whole_zone.WholeZone.{WholeZone}
 use Rattle.answer_reach.specs.declared.reached.ReachedNames.{ReachedNames}
 use Rattle.answer_reach.specs.declared.reached.ReachedNames.TheVariants.{At, Others}
 use Rattle.answer_reach.specs.declared.reached.ReachedAnswers.{ReachedAnswers}
+use Rattle.answer_reach.specs.Rights.{may_grant}
 use Rattle.answer_reach.specs.Turns.{may}
 use Rattle.answer_reach.specs.Reach.{is_type, matters, remains, may_come, may_change}
 
@@ -131,6 +134,18 @@ abbrev pub alias_under : List Record → Name → Option Record
 alias_under rs [] = if is_there rs [] then alias_by rs [] else None
 alias_under rs (label ∷ labels) = if is_there rs (label ∷ labels) then alias_by rs (label ∷ labels) else alias_under rs labels
 
+-- whether an alias is at a name, or answers for those below it of which none nearer exists
+abbrev pub has_alias : List Record → Name → Bool
+has_alias rs name = not (length (asked_at rs name (Kept types.Cname)) == 0) || is_some (alias_under rs name)
+
+-- whether an alias is at a wildcard (RFC 4592 section 2.1.1)
+abbrev pub is_wildcard : Name → Bool
+is_wildcard [] = false
+is_wildcard (label ∷ labels) = bytes_eq label asterisk
+
+abbrev pub is_wildcard_alias : Record → Bool
+is_wildcard_alias r = is_wildcard r.owner && is_type (type_of r.rdata) types.Cname
+
 -- ---- rows
 
 -- a row as contracts see it
@@ -182,6 +197,16 @@ module _ (rules : List Rule) (caller : List ℕ) (origin : Name) (rs : List Reco
   cut_may_change name =
       is_below name origin && (may_change rules caller origin rs name types.Ns || list_any (λ r. server_may_change r.rdata) (asked_at rs name (Kept types.Ns)))
 
+  -- whether the zone may be cut at a name, now or later: one of the names of its cuts, or one where a rule can grant changes
+  abbrev pub may_be_cut : List Name → Name → Bool
+  may_be_cut cuts name = has_name cuts name || may_grant rules caller name
+
+  -- the known names where it may
+  pub record IsPlaces (names places : List Name) : Type 0 where
+    pub cuts : List Name
+    pub owners : AreNamesOf cuts (cut_owners origin rs)
+    pub are : places ≡ filter (may_be_cut cuts) names
+
   -- ---- the names of a map
 
   -- a name and those above it, where something may come
@@ -203,6 +228,11 @@ module _ (rules : List Rule) (caller : List ℕ) (origin : Name) (rs : List Reco
     pub openers : m.openers.items ≡ filter (opens m.cuts.items) names
     pub soa : m.soa ≡ may_come rules caller origin rs origin types.Soa
     pub serial : m.serial ≡ list_any updates names
+
+  -- names that exist whatever the caller does are within the origin, with those above them
+  pub record StaysUp (m : ReachMap) : Type 0 where
+    pub inside : (name : Name) → has_name m.staying.items name ≡ true → is_within name origin ≡ true
+    pub up : (label : List ℕ) (labels : Name) → has_name m.staying.items (label ∷ labels) ≡ true → is_within labels origin ≡ true → has_name m.staying.items labels ≡ true
 
   module _ (m : ReachMap) where
     -- ---- what may change
@@ -244,6 +274,19 @@ module _ (rules : List Rule) (caller : List ℕ) (origin : Name) (rs : List Reco
     abbrev pub may_change_under : Name → QueryType → Bool
     may_change_under above asked = m.soa || (within_any m.openers.items above || (not (within_any m.cuts.items above) && sources_under above asked))
 
+    -- whether a wildcard below a name above this one may answer for it, for some question
+    abbrev pub wildcards_above : Name → Bool
+    wildcards_above [] = false
+    wildcards_above (label ∷ labels) = wildcards_may_change labels Any
+
+    -- whether what is found for a name, or for those below it that are not known, can change for some question. It cannot where the
+    -- name exists whatever the caller does, as then do those above it within the origin, its records stay, and no wildcard below it may
+    -- answer
+    abbrev pub may_change_near : Name → Bool
+    may_change_near name =
+        m.soa || (within_any m.openers.items name || (has_name m.under.items name || (not (has_name m.staying.items name)
+        || (records_may_change name Any || (wildcard_may_change name false Any || wildcards_above origin)))))
+
     -- ---- aliases
 
     abbrev pub may_change_inside : QueryType → Name → Bool
@@ -275,6 +318,17 @@ module _ (rules : List Rule) (caller : List ℕ) (origin : Name) (rs : List Reco
 
     abbrev pub row_for : ReachedNames → List RowOf
     row_for group = if_types group (types_in group)
+
+    -- what is the same for all names of the zone
+    pub record IsWhole (whole : WholeZone) : Type 0 where
+      pub above : whole.above ≡ wildcards_above origin
+      pub aliases : whole.aliases ≡ list_any is_wildcard_alias rs
+      pub glue : whole.glue.items ≡ filter (λ name. not (may_grant rules caller name)) m.openers.items
+      pub sorted : IsSorted canonical_cmp whole.glue.items
+
+    -- whether a name may have rows
+    abbrev pub may_have_rows : Name → Bool
+    may_have_rows name = may_change_near name || has_alias rs name
 
     abbrev pub rows_at : Name → List RowOf
     rows_at name = row_for (At name) ++ row_for (Others name)

@@ -5,7 +5,7 @@ ghost use Rattle.std.specs.List.{list_any};
 ghost use Rattle.dns_data.specs.Rdata.{type_of};
 ghost use Rattle.dns_data.specs.declared.record_type.RecordType.TheVariants as types;
 ghost use Rattle.grant_policy.specs.declared.action.Action.TheVariants as actions;
-ghost use Rattle.grant_policy.specs.Isolated.{question};
+ghost use Rattle.grant_policy.specs.Isolated.{question, ChangesRecords};
 ghost use Rattle.grant_policy.specs.Decisions.{decision, is_granted, decided};
 ghost use Rattle.zone_core.specs.Sets.{listing};
 ghost use Rattle.zone_answers.specs.declared.query_type.QueryType.TheVariants as asks;
@@ -15,6 +15,7 @@ ghost use Rattle.answer_reach.specs.Turns.{delegates, action_for, may};
 ghost use Rattle.answer_reach.specs.Reach.{is_type, are_apart, matters, remains, are_kept_out, has_place, may_come, may_go, may_change};
 ghost use Rattle.answer_reach.specs.ReachTests.{covers_under, matches_under, decision_under, action_under, may_under, comes_at, comes_under, updates_at, updates_under, updates, is_cut, stays_cut, server_may_change, cut_may_change};
 
+use crate::rights::Rights;
 use dns_data::{Data, Record, RecordType};
 use dns_names::Name;
 use grant_policy::{Action, Decision, Effect, Identifier, LookUps, Policy, Rule, Scope, decide};
@@ -24,8 +25,7 @@ use zone_core::{Zone, is_below};
 /// A caller of a policy, that may update a zone.
 #[derive(Clone, Copy)]
 pub(crate) struct Asker<'a> {
-    pub(crate) policy: &'a Policy,
-    pub(crate) caller: &'a Identifier,
+    pub(crate) rights: &'a Rights<'a>,
     pub(crate) index: &'a ZoneIndex,
 }
 
@@ -214,23 +214,33 @@ pub(crate) fn is_there(zone: &Zone, name: &Name) -> bool
 impl<'a> Asker<'a> {
     /// Whether a change of the records of a type at a name is granted.
     fn may(&self, change: Action, name: &Name, record_type: RecordType) -> bool
-        ensures { result ≡ may self.now.policy.now self.now.caller.now self.now.index.now.origin change name.now record_type }
+        requires { ChangesRecords change }
+        ensures { result ≡ may self.now.rights.now.rules self.now.rights.now.caller self.now.index.now.origin change name.now record_type }
     {
+        if !self.rights.may_grant(name) {
+            return false;
+        }
         let asked = action_for(self.index.zone().origin(), change, name, record_type);
-        is_granted(self.policy, self.caller, name, record_type, asked)
+        let (policy, caller) = (self.rights.policy(), self.rights.caller());
+        is_granted(policy, caller, name, record_type, asked)
     }
 
     /// The same at names below one, at or below which no rule is.
     fn may_under(&self, change: Action, above: &Name, record_type: RecordType) -> bool
-        ensures { result ≡ may_under self.now.policy.now self.now.caller.now change above.now record_type }
+        requires { ChangesRecords change }
+        ensures { result ≡ may_under self.now.rights.now.rules self.now.rights.now.caller change above.now record_type }
     {
+        if !self.rights.may_grant(above) {
+            return false;
+        }
         let asked = action_under(change, record_type);
-        are_granted_under(self.policy.rules(), self.caller, above, record_type, asked)
+        let (policy, caller) = (self.rights.policy(), self.rights.caller());
+        are_granted_under(policy.rules(), caller, above, record_type, asked)
     }
 
     /// Whether a record, or another of its set, is there whatever the caller does.
     pub(crate) fn remains(&self, rr: &Record) -> bool
-        ensures { result ≡ remains self.now.policy.now self.now.caller.now self.now.index.now.origin rr.now }
+        ensures { result ≡ remains self.now.rights.now.rules self.now.rights.now.caller self.now.index.now.origin rr.now }
     {
         !self.may(Action::Delete, &rr.owner, rr.record_type())
             || (rr.owner == *self.index.zone().origin() && is_guarded(rr.record_type()))
@@ -238,14 +248,14 @@ impl<'a> Asker<'a> {
 
     /// Whether a record remains, and keeps records of a type from its name.
     fn keeps_out(&self, rr: &Record, record_type: RecordType) -> bool
-        ensures { result ≡ (remains self.now.policy.now self.now.caller.now self.now.index.now.origin rr.now && are_apart (type_of rr.now.rdata) record_type) }
+        ensures { result ≡ (remains self.now.rights.now.rules self.now.rights.now.caller self.now.index.now.origin rr.now && are_apart (type_of rr.now.rdata) record_type) }
     {
         self.remains(rr) && are_apart(rr.record_type(), record_type)
     }
 
     /// Whether a record that remains keeps records of a type from a name.
     fn are_kept_out(&self, name: &Name, record_type: RecordType) -> bool
-        ensures { result ≡ are_kept_out self.now.policy.now self.now.caller.now self.now.index.now.origin (listing self.now.index.now.records) name.now record_type }
+        ensures { result ≡ are_kept_out self.now.rights.now.rules self.now.rights.now.caller self.now.index.now.origin (listing self.now.index.now.records) name.now record_type }
     {
         asked_at(self.index.zone(), name, QueryType::Any)
             .iter()
@@ -254,7 +264,7 @@ impl<'a> Asker<'a> {
 
     /// Whether the caller can add records of a type at a name.
     pub(crate) fn may_come(&self, name: &Name, record_type: RecordType) -> bool
-        ensures { result ≡ may_come self.now.policy.now self.now.caller.now self.now.index.now.origin (listing self.now.index.now.records) name.now record_type }
+        ensures { result ≡ may_come self.now.rights.now.rules self.now.rights.now.caller self.now.index.now.origin (listing self.now.index.now.records) name.now record_type }
     {
         let origin = self.index.zone().origin();
         name.is_within(origin)
@@ -265,7 +275,7 @@ impl<'a> Asker<'a> {
 
     /// Whether it can delete some.
     fn may_go(&self, name: &Name, record_type: RecordType) -> bool
-        ensures { result ≡ may_go self.now.policy.now self.now.caller.now self.now.index.now.origin (listing self.now.index.now.records) name.now record_type }
+        ensures { result ≡ may_go self.now.rights.now.rules self.now.rights.now.caller self.now.index.now.origin (listing self.now.index.now.records) name.now record_type }
     {
         self.may(Action::Delete, name, record_type)
             && !asked_at(self.index.zone(), name, QueryType::Kept(record_type)).is_empty()
@@ -273,15 +283,18 @@ impl<'a> Asker<'a> {
 
     /// Whether the records of a type at a name can change.
     pub(crate) fn may_change(&self, name: &Name, record_type: RecordType) -> bool
-        ensures { result ≡ may_change self.now.policy.now self.now.caller.now self.now.index.now.origin (listing self.now.index.now.records) name.now record_type }
+        ensures { result ≡ may_change self.now.rights.now.rules self.now.rights.now.caller self.now.index.now.origin (listing self.now.index.now.records) name.now record_type }
     {
         self.may_come(name, record_type) || self.may_go(name, record_type)
     }
 
     /// Whether records of some type may come at a name.
     fn comes_at(&self, name: &Name) -> bool
-        ensures { result ≡ comes_at self.now.policy.now self.now.caller.now self.now.index.now.origin (listing self.now.index.now.records) name.now }
+        ensures { result ≡ comes_at self.now.rights.now.rules self.now.rights.now.caller self.now.index.now.origin (listing self.now.index.now.records) name.now }
     {
+        if !self.rights.may_grant(name) {
+            return false;
+        }
         RecordType::ALL
             .iter()
             .any(|record_type| self.may_come(name, *record_type))
@@ -289,15 +302,18 @@ impl<'a> Asker<'a> {
 
     /// Whether records of a type may come at names below one, at or below which no rule is.
     fn may_come_under(&self, above: &Name, record_type: RecordType) -> bool
-        ensures { result ≡ (not (is_type record_type types.Soa) && may_under self.now.policy.now self.now.caller.now actions.Add above.now record_type) }
+        ensures { result ≡ (not (is_type record_type types.Soa) && may_under self.now.rights.now.rules self.now.rights.now.caller actions.Add above.now record_type) }
     {
         !is_type(record_type, RecordType::Soa) && self.may_under(Action::Add, above, record_type)
     }
 
     /// The same, of some type.
     pub(crate) fn comes_under(&self, above: &Name) -> bool
-        ensures { result ≡ comes_under self.now.policy.now self.now.caller.now self.now.index.now.origin (listing self.now.index.now.records) above.now }
+        ensures { result ≡ comes_under self.now.rights.now.rules self.now.rights.now.caller self.now.index.now.origin (listing self.now.index.now.records) above.now }
     {
+        if !self.rights.may_grant(above) {
+            return false;
+        }
         RecordType::ALL
             .iter()
             .any(|record_type| self.may_come_under(above, *record_type))
@@ -305,21 +321,21 @@ impl<'a> Asker<'a> {
 
     /// Whether records of some type may come at a name or at such names below it.
     pub(crate) fn comes(&self, name: &Name) -> bool
-        ensures { result ≡ (comes_at self.now.policy.now self.now.caller.now self.now.index.now.origin (listing self.now.index.now.records) name.now || comes_under self.now.policy.now self.now.caller.now self.now.index.now.origin (listing self.now.index.now.records) name.now) }
+        ensures { result ≡ (comes_at self.now.rights.now.rules self.now.rights.now.caller self.now.index.now.origin (listing self.now.index.now.records) name.now || comes_under self.now.rights.now.rules self.now.rights.now.caller self.now.index.now.origin (listing self.now.index.now.records) name.now) }
     {
         self.comes_at(name) || self.comes_under(name)
     }
 
     /// Whether a change of the records of a type at a name is granted.
     fn may_update(&self, name: &Name, record_type: RecordType) -> bool
-        ensures { result ≡ (may self.now.policy.now self.now.caller.now self.now.index.now.origin actions.Add name.now record_type || may self.now.policy.now self.now.caller.now self.now.index.now.origin actions.Delete name.now record_type) }
+        ensures { result ≡ (may self.now.rights.now.rules self.now.rights.now.caller self.now.index.now.origin actions.Add name.now record_type || may self.now.rights.now.rules self.now.rights.now.caller self.now.index.now.origin actions.Delete name.now record_type) }
     {
         self.may(Action::Add, name, record_type) || self.may(Action::Delete, name, record_type)
     }
 
     /// The same at such names below it.
     fn may_update_under(&self, above: &Name, record_type: RecordType) -> bool
-        ensures { result ≡ (may_under self.now.policy.now self.now.caller.now actions.Add above.now record_type || may_under self.now.policy.now self.now.caller.now actions.Delete above.now record_type) }
+        ensures { result ≡ (may_under self.now.rights.now.rules self.now.rights.now.caller actions.Add above.now record_type || may_under self.now.rights.now.rules self.now.rights.now.caller actions.Delete above.now record_type) }
     {
         self.may_under(Action::Add, above, record_type)
             || self.may_under(Action::Delete, above, record_type)
@@ -327,8 +343,11 @@ impl<'a> Asker<'a> {
 
     /// Whether some change is granted at a name.
     fn updates_at(&self, name: &Name) -> bool
-        ensures { result ≡ updates_at self.now.policy.now self.now.caller.now self.now.index.now.origin (listing self.now.index.now.records) name.now }
+        ensures { result ≡ updates_at self.now.rights.now.rules self.now.rights.now.caller self.now.index.now.origin (listing self.now.index.now.records) name.now }
     {
+        if !self.rights.may_grant(name) {
+            return false;
+        }
         RecordType::ALL
             .iter()
             .any(|record_type| self.may_update(name, *record_type))
@@ -336,8 +355,11 @@ impl<'a> Asker<'a> {
 
     /// Whether some change is granted at such names below it.
     fn updates_under(&self, above: &Name) -> bool
-        ensures { result ≡ updates_under self.now.policy.now self.now.caller.now self.now.index.now.origin (listing self.now.index.now.records) above.now }
+        ensures { result ≡ updates_under self.now.rights.now.rules self.now.rights.now.caller self.now.index.now.origin (listing self.now.index.now.records) above.now }
     {
+        if !self.rights.may_grant(above) {
+            return false;
+        }
         RecordType::ALL
             .iter()
             .any(|record_type| self.may_update_under(above, *record_type))
@@ -345,14 +367,14 @@ impl<'a> Asker<'a> {
 
     /// Whether some change is granted at a name or at such names below it.
     pub(crate) fn updates(&self, name: &Name) -> bool
-        ensures { result ≡ updates self.now.policy.now self.now.caller.now self.now.index.now.origin (listing self.now.index.now.records) name.now }
+        ensures { result ≡ updates self.now.rights.now.rules self.now.rights.now.caller self.now.index.now.origin (listing self.now.index.now.records) name.now }
     {
         self.updates_at(name) || self.updates_under(name)
     }
 
     /// Whether the zone is cut at a name.
     fn is_cut(&self, name: &Name) -> bool
-        ensures { result ≡ is_cut self.now.policy.now self.now.caller.now self.now.index.now.origin (listing self.now.index.now.records) name.now }
+        ensures { result ≡ is_cut self.now.rights.now.rules self.now.rights.now.caller self.now.index.now.origin (listing self.now.index.now.records) name.now }
     {
         let servers = asked_at(self.index.zone(), name, QueryType::Kept(RecordType::Ns));
         is_below(name, self.index.zone().origin()) && !servers.is_empty()
@@ -360,14 +382,14 @@ impl<'a> Asker<'a> {
 
     /// Whether a cut stays, with its servers, whatever the caller does.
     pub(crate) fn stays_cut(&self, name: &Name) -> bool
-        ensures { result ≡ stays_cut self.now.policy.now self.now.caller.now self.now.index.now.origin (listing self.now.index.now.records) name.now }
+        ensures { result ≡ stays_cut self.now.rights.now.rules self.now.rights.now.caller self.now.index.now.origin (listing self.now.index.now.records) name.now }
     {
         self.is_cut(name) && !self.may_change(name, RecordType::Ns)
     }
 
     /// Whether an address of a server can change.
     fn server_may_change(&self, rdata: &Data) -> bool
-        ensures { result ≡ server_may_change self.now.policy.now self.now.caller.now self.now.index.now.origin (listing self.now.index.now.records) rdata.now }
+        ensures { result ≡ server_may_change self.now.rights.now.rules self.now.rights.now.caller self.now.index.now.origin (listing self.now.index.now.records) rdata.now }
     {
         match rdata {
             Data::Ns(server) => {
@@ -379,7 +401,7 @@ impl<'a> Asker<'a> {
 
     /// Whether an address of a server of a name can change.
     fn servers_may_change(&self, name: &Name) -> bool
-        ensures { result ≡ list_any (λ r. server_may_change self.now.policy.now self.now.caller.now self.now.index.now.origin (listing self.now.index.now.records) r.rdata) (asked_at (listing self.now.index.now.records) name.now (asks.Kept types.Ns)) }
+        ensures { result ≡ list_any (λ r. server_may_change self.now.rights.now.rules self.now.rights.now.caller self.now.index.now.origin (listing self.now.index.now.records) r.rdata) (asked_at (listing self.now.index.now.records) name.now (asks.Kept types.Ns)) }
     {
         asked_at(self.index.zone(), name, QueryType::Kept(RecordType::Ns))
             .iter()
@@ -388,7 +410,7 @@ impl<'a> Asker<'a> {
 
     /// Whether the zone may be cut at a name or not, or a referral to that cut can change.
     pub(crate) fn cut_may_change(&self, name: &Name) -> bool
-        ensures { result ≡ cut_may_change self.now.policy.now self.now.caller.now self.now.index.now.origin (listing self.now.index.now.records) name.now }
+        ensures { result ≡ cut_may_change self.now.rights.now.rules self.now.rights.now.caller self.now.index.now.origin (listing self.now.index.now.records) name.now }
     {
         is_below(name, self.index.zone().origin())
             && (self.may_change(name, RecordType::Ns) || self.servers_may_change(name))

@@ -8,5 +8,7 @@ mod names;
 mod questions;
 mod reach_map;
 mod reached;
+mod rights;
+mod whole_zone;
 
 pub use reached::{ReachedAnswers, ReachedNames, reached_answers};

@@ -24,6 +24,9 @@ pub(crate) fn within_any(alloc: Global, names: &[Name], name: &Name) -> Result<b
     requires { IsSorted canonical_cmp names.now }
     ensures { IfOk result (λ b. b ≡ within_any names.now name.now) }
 {
+    if names.is_empty() {
+        return Ok(false);
+    }
     if has_name(names, name) {
         return Ok(true);
     }

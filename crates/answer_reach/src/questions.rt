@@ -116,7 +116,7 @@ fn alias_by<'a>(
 }
 
 /// The alias of the wildcard that answers for the names below one of which none nearer exists. The only error is out of memory.
-fn alias_under<'a>(
+pub(crate) fn alias_under<'a>(
     alloc: Global,
     zone: &'a Zone,
     above: &Name,
@@ -136,7 +136,7 @@ impl<'a> Asker<'a> {
     /// Whether a name may exist.
     fn may_exist(&self, lists: &ReachMap, name: &Name) -> bool
         requires { AreSorted lists.now }
-        ensures { result ≡ may_exist self.now.policy.now self.now.caller.now self.now.index.now.origin (listing self.now.index.now.records) lists.now name.now }
+        ensures { result ≡ may_exist self.now.rights.now.rules self.now.rights.now.caller self.now.index.now.origin (listing self.now.index.now.records) lists.now name.now }
     {
         is_there(self.index.zone(), name) || has_name(&lists.arising, name)
     }
@@ -144,7 +144,7 @@ impl<'a> Asker<'a> {
     /// Whether a name one label below another may exist.
     fn child_may_exist(&self, lists: &ReachMap, above: &Name, child: &Name) -> bool
         requires { AreSorted lists.now }
-        ensures { result ≡ child_may_exist self.now.policy.now self.now.caller.now self.now.index.now.origin (listing self.now.index.now.records) lists.now above.now child.now }
+        ensures { result ≡ child_may_exist self.now.rights.now.rules self.now.rights.now.caller self.now.index.now.origin (listing self.now.index.now.records) lists.now above.now child.now }
     {
         self.may_exist(lists, child) || has_name(&lists.under, above)
     }
@@ -158,21 +158,24 @@ impl<'a> Asker<'a> {
 
     /// Whether the records of a type make a difference to a question, and can change.
     fn type_may_change(&self, name: &Name, asked: QueryType, record_type: RecordType) -> bool
-        ensures { result ≡ (matters asked record_type && may_change self.now.policy.now self.now.caller.now self.now.index.now.origin (listing self.now.index.now.records) name.now record_type) }
+        ensures { result ≡ (matters asked record_type && may_change self.now.rights.now.rules self.now.rights.now.caller self.now.index.now.origin (listing self.now.index.now.records) name.now record_type) }
     {
         matters(asked, record_type) && self.may_change(name, record_type)
     }
 
     /// Whether the records of some type make a difference to a question, and can change.
     fn some_type_may_change(&self, name: &Name, asked: QueryType) -> bool
-        ensures { result ≡ list_any (λ t. matters asked t && may_change self.now.policy.now self.now.caller.now self.now.index.now.origin (listing self.now.index.now.records) name.now t) kept_types }
+        ensures { result ≡ list_any (λ t. matters asked t && may_change self.now.rights.now.rules self.now.rights.now.caller self.now.index.now.origin (listing self.now.index.now.records) name.now t) kept_types }
     {
+        if !self.rights.may_grant(name) {
+            return false;
+        }
         RecordType::ALL.iter().any(|record_type| self.type_may_change(name, asked, *record_type))
     }
 
     /// Whether the records of a name that make a difference to a question can change.
-    fn records_may_change(&self, lists: &ReachMap, name: &Name, asked: QueryType) -> bool
-        ensures { result ≡ records_may_change self.now.policy.now self.now.caller.now self.now.index.now.origin (listing self.now.index.now.records) lists.now name.now asked }
+    pub(crate) fn records_may_change(&self, lists: &ReachMap, name: &Name, asked: QueryType) -> bool
+        ensures { result ≡ records_may_change self.now.rights.now.rules self.now.rights.now.caller self.now.index.now.origin (listing self.now.index.now.records) lists.now name.now asked }
     {
         self.some_type_may_change(name, asked) || self.serial_matters(lists, name, asked)
     }
@@ -180,7 +183,7 @@ impl<'a> Asker<'a> {
     /// Whether a name itself may answer, and may not or with other records.
     fn own_may_change(&self, lists: &ReachMap, name: &Name, asked: QueryType) -> bool
         requires { AreSorted lists.now }
-        ensures { result ≡ own_may_change self.now.policy.now self.now.caller.now self.now.index.now.origin (listing self.now.index.now.records) lists.now name.now asked }
+        ensures { result ≡ own_may_change self.now.rights.now.rules self.now.rights.now.caller self.now.index.now.origin (listing self.now.index.now.records) lists.now name.now asked }
     {
         self.may_exist(lists, name)
             && (!has_name(&lists.staying, name) || self.records_may_change(lists, name, asked))
@@ -196,7 +199,7 @@ impl<'a> Asker<'a> {
         asked: QueryType,
     ) -> bool
         requires { AreSorted lists.now }
-        ensures { result ≡ (child_may_exist self.now.policy.now self.now.caller.now self.now.index.now.origin (listing self.now.index.now.records) lists.now above.now child.now && (not (has_name lists.now.staying.items child.now) || (nearer || records_may_change self.now.policy.now self.now.caller.now self.now.index.now.origin (listing self.now.index.now.records) lists.now child.now asked))) }
+        ensures { result ≡ (child_may_exist self.now.rights.now.rules self.now.rights.now.caller self.now.index.now.origin (listing self.now.index.now.records) lists.now above.now child.now && (not (has_name lists.now.staying.items child.now) || (nearer || records_may_change self.now.rights.now.rules self.now.rights.now.caller self.now.index.now.origin (listing self.now.index.now.records) lists.now child.now asked))) }
     {
         self.child_may_exist(lists, above, child)
             && (!has_name(&lists.staying, child)
@@ -206,7 +209,7 @@ impl<'a> Asker<'a> {
 
     /// Whether the wildcard below a name may answer, and may not or with other records, for a name below it that itself may exist or
     /// not. The only error is out of memory.
-    fn wildcard_may_change(
+    pub(crate) fn wildcard_may_change(
         &self,
         alloc: Global,
         lists: &ReachMap,
@@ -215,7 +218,7 @@ impl<'a> Asker<'a> {
         asked: QueryType,
     ) -> Result<bool, AllocError>
         requires { AreSorted lists.now }
-        ensures { IfOk result (λ b. b ≡ wildcard_may_change self.now.policy.now self.now.caller.now self.now.index.now.origin (listing self.now.index.now.records) lists.now above.now nearer asked) }
+        ensures { IfOk result (λ b. b ≡ wildcard_may_change self.now.rights.now.rules self.now.rights.now.caller self.now.index.now.origin (listing self.now.index.now.records) lists.now above.now nearer asked) }
     {
         match wildcard(alloc, above)? {
             Some(child) => Ok(self.child_may_change(lists, above, &child, nearer, asked)),
@@ -234,7 +237,7 @@ impl<'a> Asker<'a> {
         asked: QueryType,
     ) -> Result<bool, AllocError>
         requires { AreSorted lists.now }
-        ensures { IfOk result (λ b. b ≡ (not (has_name lists.now.staying.items name.now) && wildcard_may_change self.now.policy.now self.now.caller.now self.now.index.now.origin (listing self.now.index.now.records) lists.now above.now (may_exist self.now.policy.now self.now.caller.now self.now.index.now.origin (listing self.now.index.now.records) lists.now name.now) asked)) }
+        ensures { IfOk result (λ b. b ≡ (not (has_name lists.now.staying.items name.now) && wildcard_may_change self.now.rights.now.rules self.now.rights.now.caller self.now.index.now.origin (listing self.now.index.now.records) lists.now above.now (may_exist self.now.rights.now.rules self.now.rights.now.caller self.now.index.now.origin (listing self.now.index.now.records) lists.now name.now) asked)) }
     {
         if has_name(&lists.staying, name) {
             return Ok(false);
@@ -244,7 +247,7 @@ impl<'a> Asker<'a> {
 
     /// Whether one of the wildcards below the names above a name may answer, and may not or with other records. The only error is out of
     /// memory.
-    fn wildcards_may_change(
+    pub(crate) fn wildcards_may_change(
         &self,
         alloc: Global,
         lists: &ReachMap,
@@ -252,7 +255,7 @@ impl<'a> Asker<'a> {
         asked: QueryType,
     ) -> Result<bool, AllocError>
         requires { AreSorted lists.now }
-        ensures { IfOk result (λ b. b ≡ wildcards_may_change self.now.policy.now self.now.caller.now self.now.index.now.origin (listing self.now.index.now.records) lists.now name.now asked) }
+        ensures { IfOk result (λ b. b ≡ wildcards_may_change self.now.rights.now.rules self.now.rights.now.caller self.now.index.now.origin (listing self.now.index.now.records) lists.now name.now asked) }
     {
         let Some(above) = name.parent(alloc)? else {
             return Ok(false);
@@ -272,7 +275,7 @@ impl<'a> Asker<'a> {
         asked: QueryType,
     ) -> Result<bool, AllocError>
         requires { AreSorted lists.now }
-        ensures { IfOk result (λ b. b ≡ (own_may_change self.now.policy.now self.now.caller.now self.now.index.now.origin (listing self.now.index.now.records) lists.now name.now asked || wildcards_may_change self.now.policy.now self.now.caller.now self.now.index.now.origin (listing self.now.index.now.records) lists.now name.now asked)) }
+        ensures { IfOk result (λ b. b ≡ (own_may_change self.now.rights.now.rules self.now.rights.now.caller self.now.index.now.origin (listing self.now.index.now.records) lists.now name.now asked || wildcards_may_change self.now.rights.now.rules self.now.rights.now.caller self.now.index.now.origin (listing self.now.index.now.records) lists.now name.now asked)) }
     {
         if self.own_may_change(lists, name, asked) {
             return Ok(true);
@@ -289,7 +292,7 @@ impl<'a> Asker<'a> {
         asked: QueryType,
     ) -> Result<bool, AllocError>
         requires { AreSorted lists.now }
-        ensures { IfOk result (λ b. b ≡ may_change_at self.now.policy.now self.now.caller.now self.now.index.now.origin (listing self.now.index.now.records) lists.now name.now asked) }
+        ensures { IfOk result (λ b. b ≡ may_change_at self.now.rights.now.rules self.now.rights.now.caller self.now.index.now.origin (listing self.now.index.now.records) lists.now name.now asked) }
     {
         if lists.soa {
             return Ok(true);
@@ -312,7 +315,7 @@ impl<'a> Asker<'a> {
         asked: QueryType,
     ) -> Result<bool, AllocError>
         requires { AreSorted lists.now }
-        ensures { IfOk result (λ b. b ≡ may_change_inside self.now.policy.now self.now.caller.now self.now.index.now.origin (listing self.now.index.now.records) lists.now asked name.now) }
+        ensures { IfOk result (λ b. b ≡ may_change_inside self.now.rights.now.rules self.now.rights.now.caller self.now.index.now.origin (listing self.now.index.now.records) lists.now asked name.now) }
     {
         if !name.is_within(self.index.zone().origin()) {
             return Ok(false);
@@ -330,7 +333,7 @@ impl<'a> Asker<'a> {
         asked: QueryType,
     ) -> Result<bool, AllocError>
         requires { AreSorted lists.now }
-        ensures { IfOk result (λ b. b ≡ (found || may_change_inside self.now.policy.now self.now.caller.now self.now.index.now.origin (listing self.now.index.now.records) lists.now asked name.now)) }
+        ensures { IfOk result (λ b. b ≡ (found || may_change_inside self.now.rights.now.rules self.now.rights.now.caller self.now.index.now.origin (listing self.now.index.now.records) lists.now asked name.now)) }
     {
         if found {
             return Ok(true);
@@ -347,7 +350,7 @@ impl<'a> Asker<'a> {
         asked: QueryType,
     ) -> Result<bool, AllocError>
         requires { AreSorted lists.now }
-        ensures { IfOk result (λ b. b ≡ list_any (may_change_inside self.now.policy.now self.now.caller.now self.now.index.now.origin (listing self.now.index.now.records) lists.now asked) names.now) }
+        ensures { IfOk result (λ b. b ≡ list_any (may_change_inside self.now.rights.now.rules self.now.rights.now.caller self.now.index.now.origin (listing self.now.index.now.records) lists.now asked) names.now) }
     {
         let mut found = false;
         for name in names {
@@ -365,7 +368,7 @@ impl<'a> Asker<'a> {
         asked: QueryType,
     ) -> Result<bool, AllocError>
         requires { AreSorted lists.now }
-        ensures { IfOk result (λ b. b ≡ reaches self.now.policy.now self.now.caller.now self.now.index.now.origin (listing self.now.index.now.records) lists.now name.now asked) }
+        ensures { IfOk result (λ b. b ≡ reaches self.now.rights.now.rules self.now.rights.now.caller self.now.index.now.origin (listing self.now.index.now.records) lists.now name.now asked) }
     {
         let answer = self.index.answer(alloc, name, asked)?;
         let names = asked_in_turn(alloc, name, asked, &answer)?;
@@ -381,7 +384,7 @@ impl<'a> Asker<'a> {
         asked: QueryType,
     ) -> Result<bool, AllocError>
         requires { AreSorted lists.now }
-        ensures { IfOk result (λ b. b ≡ sources_under self.now.policy.now self.now.caller.now self.now.index.now.origin (listing self.now.index.now.records) lists.now above.now asked) }
+        ensures { IfOk result (λ b. b ≡ sources_under self.now.rights.now.rules self.now.rights.now.caller self.now.index.now.origin (listing self.now.index.now.records) lists.now above.now asked) }
     {
         if has_name(&lists.under, above) {
             return Ok(true);
@@ -401,7 +404,7 @@ impl<'a> Asker<'a> {
         asked: QueryType,
     ) -> Result<bool, AllocError>
         requires { AreSorted lists.now }
-        ensures { IfOk result (λ b. b ≡ may_change_under self.now.policy.now self.now.caller.now self.now.index.now.origin (listing self.now.index.now.records) lists.now above.now asked) }
+        ensures { IfOk result (λ b. b ≡ may_change_under self.now.rights.now.rules self.now.rights.now.caller self.now.index.now.origin (listing self.now.index.now.records) lists.now above.now asked) }
     {
         if lists.soa {
             return Ok(true);
@@ -424,7 +427,7 @@ impl<'a> Asker<'a> {
         alias: Option<&Record>,
     ) -> Result<bool, AllocError>
         requires { AreSorted lists.now }
-        ensures { IfOk result (λ b. b ≡ reaches_by self.now.policy.now self.now.caller.now self.now.index.now.origin (listing self.now.index.now.records) lists.now asked (option_copied alias.entry)) }
+        ensures { IfOk result (λ b. b ≡ reaches_by self.now.rights.now.rules self.now.rights.now.caller self.now.index.now.origin (listing self.now.index.now.records) lists.now asked (option_copied alias.entry)) }
     {
         let Some(alias) = alias else {
             return Ok(false);
@@ -444,7 +447,7 @@ impl<'a> Asker<'a> {
         asked: QueryType,
     ) -> Result<bool, AllocError>
         requires { AreSorted lists.now }
-        ensures { IfOk result (λ b. b ≡ (not (within_any lists.now.cuts.items above.now) && (not (asks_alias asked) && reaches_by self.now.policy.now self.now.caller.now self.now.index.now.origin (listing self.now.index.now.records) lists.now asked (alias_under (listing self.now.index.now.records) above.now)))) }
+        ensures { IfOk result (λ b. b ≡ (not (within_any lists.now.cuts.items above.now) && (not (asks_alias asked) && reaches_by self.now.rights.now.rules self.now.rights.now.caller self.now.index.now.origin (listing self.now.index.now.records) lists.now asked (alias_under (listing self.now.index.now.records) above.now)))) }
     {
         if within_any(alloc, &lists.cuts, above)? {
             return Ok(false);
@@ -465,7 +468,7 @@ impl<'a> Asker<'a> {
         asked: QueryType,
     ) -> Result<bool, AllocError>
         requires { AreSorted lists.now }
-        ensures { IfOk result (λ b. b ≡ reaches_under self.now.policy.now self.now.caller.now self.now.index.now.origin (listing self.now.index.now.records) lists.now above.now asked) }
+        ensures { IfOk result (λ b. b ≡ reaches_under self.now.rights.now.rules self.now.rights.now.caller self.now.index.now.origin (listing self.now.index.now.records) lists.now above.now asked) }
     {
         if self.may_change_under(alloc, lists, above, asked)? {
             return Ok(true);

@@ -10,11 +10,13 @@ ghost use Rattle.zone_answers.specs.declared.query_type.QueryType.{QueryType};
 ghost use Rattle.answer_reach.specs.declared.reached.ReachedAnswers.{ReachedAnswers};
 ghost use Rattle.answer_reach.specs.Turns.{CanMake};
 ghost use Rattle.answer_reach.specs.ReachedGroups.{IsListed, IsGroup, group_cmp};
-ghost use Rattle.answer_reach.specs.ReachTests.{AreSorted, reaches_in, types_in, row_of, row_for, rows_at, rows_for, AreRowsOf};
+ghost use Rattle.answer_reach.specs.ReachTests.{AreSorted, StaysUp, IsWhole, reaches_in, types_in, row_of, row_for, rows_at, rows_for, AreRowsOf};
 
 use crate::asker::Asker;
 use crate::name_lists::known_names;
 use crate::reach_map::ReachMap;
+use crate::rights::Rights;
+use crate::whole_zone::WholeZone;
 use dns_names::Name;
 use grant_policy::{Identifier, Policy};
 use std::alloc::{AllocError, Global};
@@ -48,7 +50,7 @@ impl<'a> Asker<'a> {
         asked: QueryType,
     ) -> Result<bool, AllocError>
         requires { AreSorted lists.now }
-        ensures { IfOk result (λ b. b ≡ reaches_in self.now.policy.now self.now.caller.now self.now.index.now.origin (listing self.now.index.now.records) lists.now names.now asked) }
+        ensures { IfOk result (λ b. b ≡ reaches_in self.now.rights.now.rules self.now.rights.now.caller self.now.index.now.origin (listing self.now.index.now.records) lists.now names.now asked) }
     {
         match names {
             ReachedNames::At(name) => self.reaches(alloc, lists, name, asked),
@@ -66,7 +68,7 @@ impl<'a> Asker<'a> {
         asked: QueryType,
     ) -> Result<(), AllocError>
         requires { AreSorted lists.now }
-        ensures { IfOk result (λ _. types.new.items ≡ types.old.items ++ (if reaches_in self.now.policy.now self.now.caller.now self.now.index.now.origin (listing self.now.index.now.records) lists.now names.now asked then asked ∷ [] else [])) }
+        ensures { IfOk result (λ _. types.new.items ≡ types.old.items ++ (if reaches_in self.now.rights.now.rules self.now.rights.now.caller self.now.index.now.origin (listing self.now.index.now.records) lists.now names.now asked then asked ∷ [] else [])) }
     {
         if self.reaches_in(alloc, lists, names, asked)? {
             types.push(asked)?;
@@ -82,7 +84,7 @@ impl<'a> Asker<'a> {
         names: &ReachedNames,
     ) -> Result<Vec<QueryType>, AllocError>
         requires { AreSorted lists.now }
-        ensures { IfOk result (λ types. types.items ≡ types_in self.now.policy.now self.now.caller.now self.now.index.now.origin (listing self.now.index.now.records) lists.now names.now) }
+        ensures { IfOk result (λ types. types.items ≡ types_in self.now.rights.now.rules self.now.rights.now.caller self.now.index.now.origin (listing self.now.index.now.records) lists.now names.now) }
     {
         let mut types = Vec::new(alloc);
         for asked in &QueryType::ALL {
@@ -100,7 +102,7 @@ impl<'a> Asker<'a> {
         names: ReachedNames,
     ) -> Result<(), AllocError>
         requires { AreSorted lists.now }
-        ensures { IfOk result (λ _. map row_of rows.new.items ≡ map row_of rows.old.items ++ row_for self.now.policy.now self.now.caller.now self.now.index.now.origin (listing self.now.index.now.records) lists.now names) }
+        ensures { IfOk result (λ _. map row_of rows.new.items ≡ map row_of rows.old.items ++ row_for self.now.rights.now.rules self.now.rights.now.caller self.now.index.now.origin (listing self.now.index.now.records) lists.now names) }
     {
         let types = self.types_in(alloc, lists, &names)?;
         if types.is_empty() {
@@ -110,8 +112,8 @@ impl<'a> Asker<'a> {
         Ok(())
     }
 
-    /// Appends the rows of a known name and of those below it that are not known. The only error is out of memory.
-    fn push_rows(
+    /// Appends the rows of a name and of those below it that are not known. The only error is out of memory.
+    fn push_both(
         &self,
         alloc: Global,
         rows: &mut Vec<ReachedAnswers>,
@@ -119,7 +121,7 @@ impl<'a> Asker<'a> {
         name: &Name,
     ) -> Result<(), AllocError>
         requires { AreSorted lists.now }
-        ensures { IfOk result (λ _. map row_of rows.new.items ≡ map row_of rows.old.items ++ rows_at self.now.policy.now self.now.caller.now self.now.index.now.origin (listing self.now.index.now.records) lists.now name.now) }
+        ensures { IfOk result (λ _. map row_of rows.new.items ≡ map row_of rows.old.items ++ rows_at self.now.rights.now.rules self.now.rights.now.caller self.now.index.now.origin (listing self.now.index.now.records) lists.now name.now) }
     {
         let own = ReachedNames::At(name.try_copy(alloc)?);
         self.push_row(alloc, rows, lists, own)?;
@@ -127,31 +129,58 @@ impl<'a> Asker<'a> {
         self.push_row(alloc, rows, lists, others)
     }
 
+    /// The same of a known name, most of which have none. The only error is out of memory.
+    fn push_rows(
+        &self,
+        alloc: Global,
+        rows: &mut Vec<ReachedAnswers>,
+        lists: &ReachMap,
+        whole: &WholeZone,
+        name: &Name,
+    ) -> Result<(), AllocError>
+        requires sorted { AreSorted lists.now }
+        requires stays { StaysUp self.now.rights.now.rules self.now.rights.now.caller self.now.index.now.origin (listing self.now.index.now.records) lists.now }
+        requires whole { IsWhole self.now.rights.now.rules self.now.rights.now.caller self.now.index.now.origin (listing self.now.index.now.records) lists.now whole.now }
+        ensures { IfOk result (λ _. map row_of rows.new.items ≡ map row_of rows.old.items ++ rows_at self.now.rights.now.rules self.now.rights.now.caller self.now.index.now.origin (listing self.now.index.now.records) lists.now name.now) }
+    {
+        // the proof needs that it is a zone
+        let _ = self.index.zone().records();
+        if !self.may_have_rows(alloc, lists, whole, name)? {
+            return Ok(());
+        }
+        self.push_both(alloc, rows, lists, name)
+    }
+
     /// The rows of known names. The only error is out of memory.
     fn rows_for(
         &self,
         alloc: Global,
         lists: &ReachMap,
+        whole: &WholeZone,
         names: &[Name],
     ) -> Result<Vec<ReachedAnswers>, AllocError>
-        requires { AreSorted lists.now }
-        ensures { IfOk result (λ rows. map row_of rows.items ≡ rows_for self.now.policy.now self.now.caller.now self.now.index.now.origin (listing self.now.index.now.records) lists.now names.now) }
+        requires sorted { AreSorted lists.now }
+        requires stays { StaysUp self.now.rights.now.rules self.now.rights.now.caller self.now.index.now.origin (listing self.now.index.now.records) lists.now }
+        requires whole { IsWhole self.now.rights.now.rules self.now.rights.now.caller self.now.index.now.origin (listing self.now.index.now.records) lists.now whole.now }
+        ensures { IfOk result (λ rows. map row_of rows.items ≡ rows_for self.now.rights.now.rules self.now.rights.now.caller self.now.index.now.origin (listing self.now.index.now.records) lists.now names.now) }
     {
         let mut rows = Vec::new(alloc);
         for name in names {
-            self.push_rows(alloc, &mut rows, lists, name)?;
+            self.push_rows(alloc, &mut rows, lists, whole, name)?;
         }
         Ok(rows)
     }
 
     /// The rows of all names that are known. The only error is out of memory.
     fn all_rows(&self, alloc: Global) -> Result<Vec<ReachedAnswers>, AllocError>
-        ensures { IfOk result (λ rows. AreRowsOf self.now.policy.now self.now.caller.now self.now.index.now.origin (listing self.now.index.now.records) rows.items) }
+        ensures { IfOk result (λ rows. AreRowsOf self.now.rights.now.rules self.now.rights.now.caller self.now.index.now.origin (listing self.now.index.now.records) rows.items) }
     {
         let zone = self.index.zone();
-        let known = known_names(alloc, zone.origin(), self.policy.rules(), zone.records())?;
+        let rules = self.rights.policy().rules();
+        let known = known_names(alloc, zone.origin(), rules, zone.records())?;
         let lists = self.lists(alloc, &known)?;
-        self.rows_for(alloc, &lists, &known)
+        let whole = self.whole(alloc, &lists)?;
+        self.rows_for(alloc, &lists, &whole, &known)
     }
 }
 
@@ -163,9 +192,10 @@ impl<'a> Asker<'a> {
 /// answer; below `*` itself, where only the wildcard changes; for each question, where the caller can replace the SOA; and the SOA itself,
 /// where what is granted changes nothing. What the prerequisites of an update ask for does not count.
 ///
-/// For each name at or above a record, the target of an alias or the name of a rule, it takes a pass over the rules for each type of
-/// record, and for each type of question an answer, some decisions and look-ups, and a look-up for each label. The only error is out of
-/// memory.
+/// For each name at or above a record, the target of an alias or the name of a rule, it takes some look-ups, and one in the names of
+/// rules that grant the caller changes. Where one of these may grant some, or an answer may change for another reason, it takes a pass
+/// over the rules for each type of record, and for each type of question an answer, some decisions, and a look-up for each label. The
+/// only error is out of memory.
 pub fn reached_answers(
     alloc: Global,
     index: &ZoneIndex,
@@ -183,9 +213,9 @@ pub fn reached_answers(
 {
     // the proof needs that it is a zone
     let _ = index.zone().records();
+    let rights = Rights::new(alloc, policy, caller)?;
     let asker = Asker {
-        policy,
-        caller,
+        rights: &rights,
         index,
     };
     asker.all_rows(alloc)

@@ -2,7 +2,7 @@ use Rattle.std.proofs.Common.{◌≡◌, List, ◌++◌, IfOk, ap, subst, ◌∙
 use Rattle.std.specs.List.{flat_map}
 use Rattle.zone_core.specs.Delegations.{AreNamesOf}
 use Rattle.zone_answers.specs.Answers.{Name}
-use Rattle.answer_reach.specs.ReachTests.{named_by, named_by_rule, named}
+use Rattle.answer_reach.specs.ReachTests.{named_by, named_by_rule}
 use Rattle.answer_reach.proofs.name_lists.known_names.Goals as goal
 
 pub returns : goal.returns

@@ -1,4 +1,4 @@
-use Rattle.std.proofs.Common.{◌++◌, List, [], ◌∷◌, cond, sym, ap, ◌∙◌, append-nil}
+use Rattle.std.proofs.Common.{sym, append-nil}
 use Rattle.std.specs.List.{flat_map}
 use Rattle.zone_core.proofs.BehindLemmas.{behind_all, behind_more, flat_map_push}
 use Rattle.answer_reach.specs.ReachTests.{named_by}

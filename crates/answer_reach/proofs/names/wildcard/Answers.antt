@@ -1,6 +1,3 @@
-use Rattle.std.proofs.Common.{sym, ap, ◌∙◌, cond, Some, None}
-use Rattle.zone_answers.specs.Answers.{Name, asterisk}
-use Rattle.zone_answers.proofs.SourceLemmas.{wildcard_is_read}
 use Rattle.answer_reach.proofs.GrowLemmas.{read_short, read_long}
 use Rattle.answer_reach.proofs.names.wildcard.Goals as goal
 

@@ -1,7 +1,6 @@
 use Rattle.std.proofs.Common.{◌≡◌, ◌∙◌, ◌++◌, ◌==◌, List, ◌∷◌, [], ap, sym, map, append-nil, length, vec_len, arith}
 use Rattle.std.proofs.lemmas.Bool.Decides.{Decides-eqb, not_from_Decides}
 use Rattle.std.proofs.lemmas.List.{map-append}
-use Rattle.zone_core.specs.Sets.{listing}
 use Rattle.answer_reach.specs.declared.reached.ReachedAnswers.{ReachedAnswers}
 use Rattle.answer_reach.specs.ReachTests.{RowOf, row_of, if_types}
 use Rattle.answer_reach.proofs.GrowLemmas.{row_none, row_some}

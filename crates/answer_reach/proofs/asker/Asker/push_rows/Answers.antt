@@ -1,14 +1,16 @@
-use Rattle.std.proofs.Common.{◌≡◌, ◌∙◌, ◌++◌, List, ap, sym, map, append_assoc}
+use Rattle.std.proofs.Common.{◌∙◌, ◌++◌, List, ap, sym, subst, map, append-nil}
 use Rattle.zone_core.specs.Sets.{listing}
-use Rattle.zone_answers.proofs.KnownLemmas.{if_same}
-use Rattle.answer_reach.specs.declared.reached.ReachedNames.TheVariants.{At, Others}
-use Rattle.answer_reach.specs.ReachTests.{RowOf, row_of, row_for}
+use Rattle.zone_core.specs.Zones.{IsZone}
+use Rattle.answer_reach.specs.ReachTests.{RowOf, row_of}
+use Rattle.answer_reach.proofs.MadeLemmas.{zone_rows}
+use Rattle.answer_reach.proofs.SkippedLemmas.{no_rows}
 use Rattle.answer_reach.proofs.asker.Asker.push_rows.Goals as goal
 
-pub returns : goal.returns
-returns c =
-    let row = row_for c.args.self.now.policy.now c.args.self.now.caller.now c.args.self.now.index.now.origin (listing c.args.self.now.index.now.records) c.args.lists.now in
+pub returns-then-not-branch : goal.returns-then-not-branch
+returns-then-not-branch c =
     let rows = map row_of c.args.rows.now.items in
-    let n = c.args.name.now in
-    let first : map row_of c.push_row.new.rows.items ≡ rows ++ row (At n) = c.in_ok-push_row.ensures ∙ (λ i. rows ++ row (At (c.in_ok-try_copy.ensures i))) in
-    if_same c.push_row-2.result _ _ _ c.push_row-2.ensures ((λ i. first i ++ row (Others (c.in_ok-try_copy-2.ensures i))) ∙ append_assoc rows (row (At n)) (row (Others n)))
+    let z = c.args.self.now.index.now in
+    let whole : IsZone z = subst IsZone c.zone.ensures c.records.ensures.zone in
+    sym (append-nil rows)
+    ∙ ap (λ (l : List RowOf). rows ++ l)
+    (sym (no_rows c.args.self.now.rights.now.rules c.args.self.now.rights.now.caller c.args.self.now.index.now.origin (listing c.args.self.now.index.now.records) (zone_rows c.args.self.now.rights.now.rules c.args.self.now.rights.now.caller z whole z whole) c.args.lists.now c.requires.stays c.args.name.now (sym c.in_ok-may_have_rows.ensures ∙ c.if-not-branch.true)))

@@ -4,4 +4,4 @@ use Rattle.answer_reach.specs.ReachTests.{row_of, rows_for}
 use Rattle.answer_reach.proofs.asker.Asker.rows_for.Given as goal
 
 abbrev pub invariant-loop-name : goal.invariant-loop-name
-invariant-loop-name l = map row_of l.rows.items ≡ rows_for l.self.policy.now l.self.caller.now l.self.index.now.origin (listing l.self.index.now.records) l.lists (take l.name-index l.names)
+invariant-loop-name l = map row_of l.rows.items ≡ rows_for l.self.rights.now.rules l.self.rights.now.caller l.self.index.now.origin (listing l.self.index.now.records) l.lists (take l.name-index l.names)

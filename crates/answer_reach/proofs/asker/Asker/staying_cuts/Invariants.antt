@@ -1,8 +1,8 @@
-use Rattle.std.proofs.Common.{◌≡◌, ◌++◌, take}
+use Rattle.std.proofs.Common.{◌≡◌, take}
 use Rattle.std.specs.List.{filter}
 use Rattle.zone_core.specs.Sets.{listing}
 use Rattle.answer_reach.specs.ReachTests.{stays_cut}
 use Rattle.answer_reach.proofs.asker.Asker.staying_cuts.Given as goal
 
 abbrev pub invariant-loop-name : goal.invariant-loop-name
-invariant-loop-name l = l.names.items ≡ filter (stays_cut l.self.policy.now l.self.caller.now l.self.index.now.origin (listing l.self.index.now.records)) (take l.name-index l.known)
+invariant-loop-name l = l.names.items ≡ filter (stays_cut l.self.rights.now.rules l.self.rights.now.caller l.self.index.now.origin (listing l.self.index.now.records)) (take l.name-index l.known)

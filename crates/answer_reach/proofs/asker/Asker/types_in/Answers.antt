@@ -17,9 +17,9 @@ kept_more p xs i d now next below so_far more =
 pub loop-asked-preserved : goal.loop-asked-preserved
 loop-asked-preserved c =
     let l = c.loop-asked in
-    kept_more (reaches_in c.args.self.now.policy.now c.args.self.now.caller.now c.args.self.now.index.now.origin (listing c.args.self.now.index.now.records) c.args.lists.now c.args.names.now) query_types l.asked-index _ l.types.items _ (search (rules, arith)) l.invariant c.in_ok-push_type.ensures
+    kept_more (reaches_in c.args.self.now.rights.now.rules c.args.self.now.rights.now.caller c.args.self.now.index.now.origin (listing c.args.self.now.index.now.records) c.args.lists.now c.args.names.now) query_types l.asked-index _ l.types.items _ (search (rules, arith)) l.invariant c.in_ok-push_type.ensures
 
 pub returns : goal.returns
 returns c =
     let l = c.loop-asked in
-    l.invariant ∙ ap (filter (reaches_in c.args.self.now.policy.now c.args.self.now.caller.now c.args.self.now.index.now.origin (listing c.args.self.now.index.now.records) c.args.lists.now c.args.names.now)) (take_all l.asked-index query_types (search (rules, arith)))
+    l.invariant ∙ ap (filter (reaches_in c.args.self.now.rights.now.rules c.args.self.now.rights.now.caller c.args.self.now.index.now.origin (listing c.args.self.now.index.now.records) c.args.lists.now c.args.names.now)) (take_all l.asked-index query_types (search (rules, arith)))
