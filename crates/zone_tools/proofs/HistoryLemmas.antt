@@ -3,7 +3,7 @@ use Rattle.std.proofs.Common.{◌≡◌, ℕ, zero, suc, ◌+◌, ◌<◌, ◌�
 use Rattle.std.specs.Option.{option_or}
 use Rattle.std.specs.List.{AllByRecursion, Contains, list_any}
 use Rattle.std.proofs.lemmas.List.Elements.{recursion_from_All, All-contains_itself}
-use Rattle.std.specs.Result.{IfOk, OnOk}
+use Rattle.std.specs.Result.{IfOk}
 use Rattle.std.specs.Prelude.{Result, Ok, Err, Vec}
 use Rattle.std.specs.FinMap.{get, find}
 use Rattle.std.specs.BTreeSet.{BTreeSet, contains}
@@ -19,7 +19,7 @@ use Rattle.zone_core.proofs.RowLemmas.{get-set_of, found_has, found_key, each_in
 use Rattle.zone_core.proofs.MergeLemmas.{found_append}
 use Rattle.zone_core.proofs.ChangedLemmas.{get-changed}
 use Rattle.zone_tools.specs.RecordKeys.{same_key_equiv}
-use Rattle.zone_tools.specs.History.{undone, before, Leads, has_key, touches, AreApart, IsRemovedFirst, WasThere, bringer, IsBringer, found_in, ChangesAreUndone, RecordsWereThere, BringersAreLast}
+use Rattle.zone_tools.specs.History.{undone, before, has_key, touches, AreApart, WasThere, bringer, IsBringer, found_in, ChangesAreUndone, RecordsWereThere, BringersAreLast}
 
 -- ---- what is found in rows
 

@@ -13,6 +13,7 @@ pub mod PointerLemmas
 pub mod SharedLemmas
 pub mod LargeSetLemmas
 pub mod HistoryLemmas
+pub mod IdleLemmas
 pub mod InTurnLemmas
 pub mod TestedInTurnLemmas
 pub mod FurtherLemmas

@@ -1,6 +1,7 @@
 pub mod Differences
 pub mod DifferencePromises
 pub mod UpdatesInTurn
+pub mod IdleOperations
 pub mod RecordKeys
 pub mod History
 pub mod HostNames

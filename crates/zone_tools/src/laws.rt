@@ -1,6 +1,7 @@
 //! Laws of the definitions. The functions do nothing: their contracts are the laws.
 
 ghost use Rattle.zone_tools.specs.History.{ChangesAreUndone, RecordsWereThere, BringersAreLast};
+ghost use Rattle.zone_tools.specs.IdleOperations.{IdleOperationsChangeNothing, IdleOperationsNeedTheirPart};
 ghost use Rattle.zone_tools.specs.Pointers.{PointersAreOne};
 ghost use Rattle.zone_tools.specs.ZoneFindings.{CleanZonesHaveGlue};
 ghost use Rattle.zone_tools.specs.UpdatesInTurn.{PartsMakeTheRecords, PartsMakeTheZone, PartsTakeTheSoa, PartsTakeANewerSoa, VerdictsStay, PartsAreMet};
@@ -18,6 +19,13 @@ pub fn changes_are_undone()
 /// In a zone without findings each server of a delegation that is within the child has an address (RFC 1034 section 4.2.1).
 pub fn clean_zones_have_glue()
     ensures { CleanZonesHaveGlue }
+{}
+
+/// An operation is said to change nothing exactly where the zone after the operations of its update up to it, were they the whole update,
+/// is the zone after those before it; and the part of a zone that the update reads tells it of the zone.
+pub fn idle_operations_change_nothing()
+    ensures exact { IdleOperationsChangeNothing }
+    ensures part { IdleOperationsNeedTheirPart }
 {}
 
 /// Lists with the same records have the same pointers: when they are made again, and whatever the order of the records.

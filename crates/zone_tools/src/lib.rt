@@ -9,6 +9,7 @@
 mod difference;
 mod history;
 mod host_names;
+mod idle;
 mod large_record_sets;
 mod laws;
 mod name_server;
@@ -28,10 +29,11 @@ mod zone_survey;
 pub use difference::operations_between;
 pub use history::{bringers, records_before};
 pub use host_names::is_reverse;
+pub use idle::{Idleness, idle_operations};
 pub use large_record_sets::large_sets;
 pub use laws::{
-    bringers_are_last, changes_are_undone, clean_zones_have_glue, pointers_are_one,
-    records_were_there, updates_in_turn,
+    bringers_are_last, changes_are_undone, clean_zones_have_glue, idle_operations_change_nothing,
+    pointers_are_one, records_were_there, updates_in_turn,
 };
 pub use name_server::{NameServer, Reaction};
 pub use pointers::reverse_pointers;

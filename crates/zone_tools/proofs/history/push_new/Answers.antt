@@ -1,5 +1,4 @@
 use Rattle.std.proofs.Common.{◌||◌, take, ap, sym, ◌∙◌}
-use Rattle.std.specs.FinMap.{get}
 use Rattle.std.specs.BTreeSet.{contains}
 use Rattle.zone_core.specs.Sets.{key_cmp, key_of, same_key, set_of}
 use Rattle.zone_tools.specs.History.{found_in}
