@@ -3,6 +3,7 @@ pub mod ListPutLemmas
 pub mod StoreLemmas
 pub mod FilesLemmas
 pub mod LogLemmas
+pub mod LogObjectLemmas
 pub mod LogLaws
 pub mod ZoneListLemmas
 pub mod ZoneListLaws

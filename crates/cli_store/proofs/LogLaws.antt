@@ -133,4 +133,4 @@ receipts_are_asked asked kept k =
     )
 
 pub all_changes_are_asked : AllChangesAreAsked
-all_changes_are_asked origin changes = all_kept (numbered 1 changes)
+all_changes_are_asked origin form changes = all_kept (numbered 1 changes)

@@ -12,7 +12,7 @@ use Rattle.zone_core.specs.Changes.{ChangeOf, change_in}
 use Rattle.zone_core.specs.Updates.{UpdateOf, tested_name, acted_name}
 use Rattle.office_model.specs.Replies.{NumberedOf}
 use Rattle.office_core.specs.Machine.{numbered}
-use Rattle.cli_store.specs.Log.{passes, some_within, numbered_as, update_names, change_text}
+use Rattle.cli_store.specs.Log.{passes, some_within, numbered_as, update_names}
 
 -- ---- what is asked for
 
@@ -73,11 +73,11 @@ numbered_push n (x ∷ xs) c =
     let counts : suc n + length xs ≡ n + suc (length xs) = omega arith in
     ap (λ (l : List NumberedOf). numbered_as n x ∷ l) (numbered_push (suc n) xs c ∙ ap (λ (m : ℕ). numbered (suc n) xs ++ numbered_as m c ∷ []) counts)
 
-pub change_taken : (p : NumberedOf → Bool) (cs : List Change) (i number : ℕ) (c : Change) → length cs ≡ i → number ≡ i + 1
-    → flat_map change_text (filter p (numbered 1 (map change_in (cs ++ c ∷ [])))) ≡ flat_map change_text (filter p (numbered 1 (map change_in cs))) ++ flat_map change_text (filter p (numbered_as number (change_in c) ∷ []))
-change_taken p cs i number c long is =
+pub change_taken : (shown : NumberedOf → List ℕ) (p : NumberedOf → Bool) (cs : List Change) (i number : ℕ) (c : Change) → length cs ≡ i → number ≡ i + 1
+    → flat_map shown (filter p (numbered 1 (map change_in (cs ++ c ∷ [])))) ≡ flat_map shown (filter p (numbered 1 (map change_in cs))) ++ flat_map shown (filter p (numbered_as number (change_in c) ∷ []))
+change_taken shown p cs i number c long is =
     let counts : 1 + length (map change_in cs) ≡ number = omega (arith, length-map cs change_in, long, is) in
-    ap (λ (l : List NumberedOf). flat_map change_text (filter p l))
+    ap (λ (l : List NumberedOf). flat_map shown (filter p l))
     (ap (numbered 1) (map-append change_in cs (c ∷ [])) ∙ numbered_push 1 (map change_in cs) (change_in c)
     ∙ ap (λ (m : ℕ). numbered 1 (map change_in cs) ++ numbered_as m (change_in c) ∷ []) counts)
-    ∙ flat_kept change_text p (numbered 1 (map change_in cs)) (numbered_as number (change_in c) ∷ [])
+    ∙ flat_kept shown p (numbered 1 (map change_in cs)) (numbered_as number (change_in c) ∷ [])

@@ -42,7 +42,7 @@ use Rattle.cli_store.specs.ZoneFiles.{ZoneFileOf, zone_files_read}
 use Rattle.cli_store.specs.Migrate.{StoreMigrated}
 use Rattle.cli_store.specs.Program.{StoreJobEnds, JobEnds, WordsEnd, named, standard, status_of}
 use Rattle.cli_store.specs.Puts.{put_into, with_put}
-use Rattle.cli_store.specs.Remove.{removed_line, IsRemoved, ZoneRemoved}
+use Rattle.cli_store.specs.Remove.{IsRemoved}
 use Rattle.cli_store.specs.Reports.{IsReported}
 use Rattle.wire_tcp.specs.Limits.{Limits}
 use Rattle.cli_store.specs.Serve.{TableAt, policy_read, most_of, parties_of, limits_by, asked_by, IsServiceTold, IsServedBy, BeginsBy, Serves}
@@ -52,7 +52,7 @@ use Rattle.cli_store.specs.ZoneHistory.{blame_asked, blame_text, past_text, undo
 use Rattle.cli_store.specs.Stores.{StoresOf, IsRead, IsPut, IsUnopened, IsReached, IsUnreached, IsStored, IsGot, IsMigratedStore, stores_of}
 use Rattle.cli_store.specs.Starts.{HasState, held, Deed, put, took, state_after_deeds, called_by, Setting, Start, IsStart, MayFollow, AreStarts, Course, deeds_of, IsNothing, IsZoneMade, IsZoneInHand, IsZoneRefused, IsZoneRemoved, IsRemovalRefused, deeds_in, AreZonesMade, AreNoneMade, IsUnserved, moment_of, IsServed, JobMakes, IsCourse, AreCourses, history, StartsHaveOneHistory}
 use Rattle.cli_store.proofs.DeedLemmas.{after_more, called_are, called_more}
-use Rattle.cli_store.proofs.DiskLemmas.{Settles, adopted_holds, made_holds, no_store, unmade, migrated, unmigrated, asked_still, left_still, stays_still, WasPut, put_made, put_refused, taken_out, WasTakenOut, removal_refused}
+use Rattle.cli_store.proofs.DiskLemmas.{Settles, adopted_holds, made_holds, no_store, unmade, migrated, unmigrated, asked_still, left_still, stays_still, WasPut, put_made, put_refused, taken_out, removal_refused}
 use Rattle.cli_store.proofs.ListPutLemmas.{unpassed_honest}
 
 -- ---- a lifetime of a table

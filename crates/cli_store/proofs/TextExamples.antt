@@ -10,6 +10,7 @@ use Rattle.zone_core.specs.declared.update.ItemList.TheVariants.{Operations}
 use Rattle.zone_core.specs.Changes.{ChangeOf}
 use Rattle.office_model.specs.declared.reply.UpdateReply.TheVariants.{NoError, Refused}
 use Rattle.store_rows.specs.declared.ordered.KeptReceipt.{KeptReceipt}
+use Rattle.cli_core.specs.declared.job.TextForm.TheVariants.{Plain}
 use Rattle.cli_store.specs.declared.log_choice.LogAsked.{LogAsked}
 use Rattle.cli_store.specs.declared.zone_list.ZoneSummary.{ZoneSummary}
 use Rattle.cli_store.specs.Log.{log_text}
@@ -58,7 +59,7 @@ kept =
     ∷ []
 
 abbrev asked : Option ℕ → Option (List (List ℕ)) → Option (List ℕ) → LogAsked
-asked from name caller = record { origin = origin; from = from; name = name; caller = caller }
+asked from name caller = record { origin = origin; from = from; name = name; caller = caller; form = Plain }
 
 abbrev first_change : List ℕ
 first_change = lines (codes "change 1" ∷ codes "+ www.t. 60 IN NS ns.t." ∷ [])

@@ -8,6 +8,11 @@ use Rattle.zone_core.specs.Changes.{ChangeOf}
 use Rattle.zone_core.specs.Updates.{UpdateOf, tested_name, acted_name}
 use Rattle.office_model.specs.Replies.{NumberedOf}
 use Rattle.update_lines.specs.Texts.{update_text}
+use Rattle.wire_json.specs.Json.{quoted, member, object}
+use Rattle.wire_json.specs.Replies.{lines_value, update_body}
+use Rattle.wire_json.specs.UpdateTexts.{update_text as body_text}
+use Rattle.cli_core.specs.declared.job.TextForm.{TextForm}
+use Rattle.cli_core.specs.declared.job.TextForm.TheVariants.{Plain, Json}
 use Rattle.office_core.specs.Machine.{numbered}
 use Rattle.store_rows.specs.declared.ordered.KeptReceipt.{KeptReceipt}
 use Rattle.office_model.specs.ReplyWords.{reply_words}
@@ -76,9 +81,29 @@ receipt_line k = codes "receipt " ++ (k.caller ++ 32 ∷ (k.id ++ 32 ∷ (reply_
 abbrev pub receipt_text : KeptReceipt → List ℕ
 receipt_text k = receipt_line k ++ update_text k.receipt.update
 
+-- a change as an object of JSON, as a request for changes is answered
+abbrev pub change_object : NumberedOf → List ℕ
+change_object c =
+    object (member (codes "added") (lines_value c.added) ∷ member (codes "number") (decimal c.number) ∷ member (codes "removed") (lines_value c.removed) ∷ [])
+
+-- a receipt as an object of JSON: the caller, the body of the reply, and that of the request
+abbrev pub receipt_object : KeptReceipt → List ℕ
+receipt_object k =
+    object
+    (member (codes "caller") (quoted k.caller) ∷ member (codes "reply") (update_body k.receipt.reply) ∷ member (codes "request") (body_text k.id k.receipt.update) ∷ [])
+
+-- either in the form that is asked for
+abbrev pub change_shown : TextForm → NumberedOf → List ℕ
+change_shown Plain c = change_text c
+change_shown Json c = change_object c ++ 10 ∷ []
+
+abbrev pub receipt_shown : TextForm → KeptReceipt → List ℕ
+receipt_shown Plain k = receipt_text k
+receipt_shown Json k = receipt_object k ++ 10 ∷ []
+
 -- the changes of a zone, and the receipts of a store
 abbrev pub log_text : LogAsked → List ChangeOf → List KeptReceipt → List ℕ
-log_text asked changes kept = flat_map change_text (changes_asked asked changes) ++ flat_map receipt_text (receipts_asked asked kept)
+log_text asked changes kept = flat_map (change_shown asked.form) (changes_asked asked changes) ++ flat_map (receipt_shown asked.form) (receipts_asked asked kept)
 
 -- ---- the same by membership
 
@@ -112,4 +137,6 @@ ReceiptsAreAsked = (asked : LogAsked) (kept : List KeptReceipt) (k : KeptReceipt
 
 -- with no number, name and caller all changes are printed
 abbrev pub AllChangesAreAsked : Type 0
-AllChangesAreAsked = (origin : List (List ℕ)) (changes : List ChangeOf) → changes_asked (record { origin = origin; from = None; name = None; caller = None }) changes ≡ numbered 1 changes
+AllChangesAreAsked =
+    (origin : List (List ℕ)) (form : TextForm) (changes : List ChangeOf)
+    → changes_asked (record { origin = origin; from = None; name = None; caller = None; form = form }) changes ≡ numbered 1 changes

@@ -221,7 +221,7 @@ TextJobEnds a i o (text_job.Canon w) status = EndsTask i.left (i.after ≡ i.bef
 TextJobEnds a i o (text_job.Diff w) status = Ends (λ outcome. DiffersBy a i w.form w.origin.now w.files o outcome) status
 TextJobEnds a i o (text_job.Request w) status = EndsTask i.left (i.after ≡ i.before) (i.before < i.after) (requested w.form w.id.now) o status
 TextJobEnds a i o (text_job.Rights w) status =
-    IsUnread i × EndsTask (a.file w.policy.now) ⊤ (a.unreadable w.policy.now) (rights_text w.asked) o status
+    IsUnread i × EndsTask (a.file w.policy.now) ⊤ (a.unreadable w.policy.now) (rights_text w.form w.asked) o status
 TextJobEnds a i o (text_job.Plan w) status =
     Ends (λ outcome. IsPlanned w.form w.caller.now (named a w.policy.now) (standard i) o.old o.new outcome o.before o.after) status
 TextJobEnds a i o (text_job.Check w) status = CheckEnds a i o w status

@@ -31,7 +31,7 @@ use Rattle.cli_store.specs.Stores.{StoresOf, IsGot}
 abbrev pub log_asked : List ℕ → LogChoice → Result LogAsked Refusal
 log_asked word choice =
     of_names (absolute_name word) >>= λ origin. name_if (option_map (λ w. w.now) choice.name) >>= λ name. caller_if (option_map (λ w. w.now) choice.caller) >>= λ caller.
-    Ok (record { origin = origin; from = choice.from; name = name; caller = caller })
+    Ok (record { origin = origin; from = choice.from; name = name; caller = caller; form = choice.form })
 
 -- ---- what a store has
 

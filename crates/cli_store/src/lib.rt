@@ -13,6 +13,7 @@ mod kept_input;
 mod list_laws;
 mod listening;
 mod log_choice;
+mod log_object;
 mod migration;
 mod past_zone;
 mod program;

@@ -7,6 +7,7 @@ ghost use Rattle.zone_core.specs.Changes.{change_in};
 ghost use Rattle.zone_core.specs.Updates.{tested_name, acted_name};
 ghost use Rattle.cli_store.specs.Log.{passes, numbered_as, update_names, some_within, asks_changes, asks_receipts, asks_change, asks_receipt};
 
+use cli_core::TextForm;
 use dns_data::Record;
 use dns_names::Name;
 use grant_policy::Identifier;
@@ -24,6 +25,8 @@ pub struct LogAsked {
     pub name: Option<Name>,
     /// Of which caller the receipts are, where one is given.
     pub caller: Option<Identifier>,
+    /// As what they are printed.
+    pub form: TextForm,
 }
 
 /// Whether some record has its owner within a name.

@@ -501,7 +501,7 @@ pub fn do_text_job<M: Surroundings, R: Source, W: Sink>(
                 around,
                 path: words.policy,
             };
-            do_task(around, words.asked, &mut policy, output)
+            do_task(around, words, &mut policy, output)
         }
         TextJob::Plan(words) => {
             let what = (words.caller, words.form);

@@ -1,6 +1,6 @@
 //! The job `log`: what a store has of a zone, printed.
 
-ghost use Rattle.std.specs.Prelude.{◌≡◌, option_map, string_bytes};
+ghost use Rattle.std.specs.Prelude.{◌≡◌, option_map};
 ghost use Rattle.std.specs.Result.{result_map_both};
 ghost use Rattle.sqlite.specs.Held.{state};
 ghost use Rattle.cli_core.specs.LineFaults.{Gives};
@@ -12,7 +12,7 @@ use crate::log_choice::LogAsked;
 use crate::store_file::StorePath;
 use crate::table_job::{TableJob, asked_by};
 use crate::zone_log::log_text;
-use crate::zones::report;
+use crate::zones::report_octets;
 use cli_core::{JobFault, LineFault, LogChoice, StoredZone, write_refusal};
 use cli_text::{caller_if, name_if, read_name};
 use dns_master::Sink;
@@ -41,6 +41,7 @@ fn log_asked(alloc: Global, origin: &str, choice: LogChoice<'_>) -> Result<LogAs
         from: choice.from,
         name: name_if(alloc, choice.name)?,
         caller: caller_if(alloc, choice.caller)?,
+        form: choice.form,
     })
 }
 
@@ -69,8 +70,8 @@ fn text_of(
     alloc: Global,
     asked: &LogAsked,
     read: Result<ZoneLog, StoreFault>,
-) -> Result<String, LineFault>
-    ensures { IsTextOf asked.now (result_map_both log_in (λ fault. fault) read) (result_map_both (λ text. string_bytes text) (λ fault. fault) result) }
+) -> Result<Vec<u8>, LineFault>
+    ensures { IsTextOf asked.now (result_map_both log_in (λ fault. fault) read) (result_map_both (λ text. text.items) (λ fault. fault) result) }
 {
     let log = read?;
     Ok(log_text(alloc, asked, &log.changes, &log.kept)?)
@@ -101,7 +102,10 @@ pub fn log<W: Sink, S: Alter + Drop, P: StoreFiles<S> + Drop>(
                 &LogOf(&asked.origin),
                 blank,
             );
-            (conn, report(alloc, writer, text_of(alloc, &asked, read)))
+            (
+                conn,
+                report_octets(alloc, writer, text_of(alloc, &asked, read)),
+            )
         }
         Err(fault) => (None, Err(write_refusal(alloc, writer, fault))),
     }

@@ -4,9 +4,11 @@ ghost use Rattle.std.specs.Prelude.{◌≡◌, ◌++◌, [], ◌∷◌, map, IfO
 ghost use Rattle.std.specs.List.{filter, flat_map};
 ghost use Rattle.zone_core.specs.Changes.{change_in};
 ghost use Rattle.office_core.specs.Machine.{numbered};
-ghost use Rattle.cli_store.specs.Log.{numbered_as, change_text, receipt_line, receipt_text, asks_change, asks_receipt, changes_asked, receipts_asked, log_text};
+ghost use Rattle.cli_store.specs.Log.{numbered_as, change_text, receipt_line, receipt_text, change_shown, receipt_shown, asks_change, asks_receipt, changes_asked, receipts_asked, log_text};
 
 use crate::log_choice::LogAsked;
+use crate::log_object::{push_change_object, push_receipt_object};
+use cli_core::TextForm;
 use cli_text::push_signed;
 use office_model::reply_words;
 use std::alloc::{AllocError, Global};
@@ -24,46 +26,72 @@ fn push_change(text: &mut String, number: u64, change: &Change) -> Result<(), Al
     push_signed(text, "+", &change.added)
 }
 
+/// Appends a change in a form. The only error is out of memory.
+fn push_shown_change(
+    alloc: Global,
+    text: &mut Vec<u8>,
+    form: TextForm,
+    number: u64,
+    change: &Change,
+) -> Result<(), AllocError>
+    ensures { OnOk result (text.new.items ≡ text.old.items ++ change_shown form (numbered_as number (change_in change.now))) }
+{
+    match form {
+        TextForm::Plain => {
+            let mut lines = String::new(alloc);
+            push_change(&mut lines, number, change)?;
+            text.extend_from_slice(lines.as_bytes())
+        }
+        TextForm::Json => push_change_object(alloc, text, number, change),
+    }
+}
+
 /// Appends a change, if it is asked for. The only error is out of memory.
 fn push_asked_change(
-    text: &mut String,
+    alloc: Global,
+    text: &mut Vec<u8>,
     asked: &LogAsked,
     number: u64,
     change: &Change,
 ) -> Result<(), AllocError>
     ensures { OnOk result
-        (string_bytes text.new
-        ≡ string_bytes text.old ++ flat_map change_text (filter (asks_change asked.now) (numbered_as number (change_in change.now) ∷ []))) }
+        (text.new.items ≡ text.old.items ++ flat_map (change_shown asked.now.form) (filter (asks_change asked.now) (numbered_as number (change_in change.now) ∷ []))) }
 {
     if !asked.asks_change(number, change) {
         return Ok(());
     }
-    push_change(text, number, change)
+    push_shown_change(alloc, text, asked.form, number, change)
 }
 
 /// Appends those of the changes that are asked for, where changes are. The only error is out of memory.
 fn push_asked_changes(
-    text: &mut String,
+    alloc: Global,
+    text: &mut Vec<u8>,
     asked: &LogAsked,
     changes: &[Change],
 ) -> Result<(), AllocError>
     ensures { OnOk result
-        (string_bytes text.new ≡ string_bytes text.old ++ flat_map change_text (filter (asks_change asked.now) (numbered 1 (map change_in changes.now)))) }
+        (text.new.items ≡ text.old.items ++ flat_map (change_shown asked.now.form) (filter (asks_change asked.now) (numbered 1 (map change_in changes.now)))) }
 {
     for (i, change) in changes.iter().enumerate() {
-        push_asked_change(text, asked, i as u64 + 1, change)?;
+        push_asked_change(alloc, text, asked, i as u64 + 1, change)?;
     }
     Ok(())
 }
 
 /// Appends those of the changes that are asked for. The only error is out of memory.
-fn push_changes(text: &mut String, asked: &LogAsked, changes: &[Change]) -> Result<(), AllocError>
-    ensures { OnOk result (string_bytes text.new ≡ string_bytes text.old ++ flat_map change_text (changes_asked asked.now (map change_in changes.now))) }
+fn push_changes(
+    alloc: Global,
+    text: &mut Vec<u8>,
+    asked: &LogAsked,
+    changes: &[Change],
+) -> Result<(), AllocError>
+    ensures { OnOk result (text.new.items ≡ text.old.items ++ flat_map (change_shown asked.now.form) (changes_asked asked.now (map change_in changes.now))) }
 {
     if !asked.asks_changes() {
         return Ok(());
     }
-    push_asked_changes(text, asked, changes)
+    push_asked_changes(alloc, text, asked, changes)
 }
 
 /// Appends the line of a receipt. The only error is out of memory.
@@ -85,29 +113,48 @@ fn push_receipt(alloc: Global, text: &mut String, kept: &KeptReceipt) -> Result<
     text.push_str(&items)
 }
 
+/// Appends a receipt in a form. The only error is out of memory.
+fn push_shown_receipt(
+    alloc: Global,
+    text: &mut Vec<u8>,
+    form: TextForm,
+    kept: &KeptReceipt,
+) -> Result<(), AllocError>
+    ensures { OnOk result (text.new.items ≡ text.old.items ++ receipt_shown form kept.now) }
+{
+    match form {
+        TextForm::Plain => {
+            let mut lines = String::new(alloc);
+            push_receipt(alloc, &mut lines, kept)?;
+            text.extend_from_slice(lines.as_bytes())
+        }
+        TextForm::Json => push_receipt_object(alloc, text, kept),
+    }
+}
+
 /// Appends a receipt, if it is asked for. The only error is out of memory.
 fn push_asked_receipt(
     alloc: Global,
-    text: &mut String,
+    text: &mut Vec<u8>,
     asked: &LogAsked,
     kept: &KeptReceipt,
 ) -> Result<(), AllocError>
-    ensures { OnOk result (string_bytes text.new ≡ string_bytes text.old ++ flat_map receipt_text (filter (asks_receipt asked.now) (kept.now ∷ []))) }
+    ensures { OnOk result (text.new.items ≡ text.old.items ++ flat_map (receipt_shown asked.now.form) (filter (asks_receipt asked.now) (kept.now ∷ []))) }
 {
     if !asked.asks_receipt(kept) {
         return Ok(());
     }
-    push_receipt(alloc, text, kept)
+    push_shown_receipt(alloc, text, asked.form, kept)
 }
 
 /// Appends those of the receipts that are asked for, where receipts are. The only error is out of memory.
 fn push_asked_receipts(
     alloc: Global,
-    text: &mut String,
+    text: &mut Vec<u8>,
     asked: &LogAsked,
     all: &[KeptReceipt],
 ) -> Result<(), AllocError>
-    ensures { OnOk result (string_bytes text.new ≡ string_bytes text.old ++ flat_map receipt_text (filter (asks_receipt asked.now) all.now)) }
+    ensures { OnOk result (text.new.items ≡ text.old.items ++ flat_map (receipt_shown asked.now.form) (filter (asks_receipt asked.now) all.now)) }
 {
     for kept in all {
         push_asked_receipt(alloc, text, asked, kept)?;
@@ -118,11 +165,11 @@ fn push_asked_receipts(
 /// Appends those of the receipts that are asked for. The only error is out of memory.
 fn push_receipts(
     alloc: Global,
-    text: &mut String,
+    text: &mut Vec<u8>,
     asked: &LogAsked,
     all: &[KeptReceipt],
 ) -> Result<(), AllocError>
-    ensures { OnOk result (string_bytes text.new ≡ string_bytes text.old ++ flat_map receipt_text (receipts_asked asked.now all.now)) }
+    ensures { OnOk result (text.new.items ≡ text.old.items ++ flat_map (receipt_shown asked.now.form) (receipts_asked asked.now all.now)) }
 {
     if !asked.asks_receipts() {
         return Ok(());
@@ -132,17 +179,17 @@ fn push_receipts(
 
 /// The log of a zone, as far as it is asked for: of each change, in order, a line `change NUMBER`, the records that went, each after `-`,
 /// and those that came, each after `+`; then of each receipt, in the order in which they come, a line `receipt CALLER ID ANSWER` and the
-/// items of its update, as `items_text` prints them. The changes are all of the zone, from the first on. The only error is out of memory.
+/// items of its update, as `items_text` prints them; or of each an object of JSON on a line of its own. The changes are all of the zone, from the first on. The only error is out of memory.
 pub fn log_text(
     alloc: Global,
     asked: &LogAsked,
     changes: &[Change],
     kept: &[KeptReceipt],
-) -> Result<String, AllocError>
-    ensures { IfOk result (λ text. string_bytes text ≡ log_text asked.now (map change_in changes.now) kept.now) }
+) -> Result<Vec<u8>, AllocError>
+    ensures { IfOk result (λ text. text.items ≡ log_text asked.now (map change_in changes.now) kept.now) }
 {
-    let mut text = String::new(alloc);
-    push_changes(&mut text, asked, changes)?;
+    let mut text = Vec::new(alloc);
+    push_changes(alloc, &mut text, asked, changes)?;
     push_receipts(alloc, &mut text, asked, kept)?;
     Ok(text)
 }

@@ -156,6 +156,24 @@ pub(crate) fn zone_with_line<R: Input>(
     }
 }
 
+/// Writes the text that was made, or the line of the fault.
+pub(crate) fn report_octets<W: Sink>(
+    alloc: Global,
+    writer: &mut W,
+    made: Result<Vec<u8>, LineFault>,
+) -> Result<(), JobFault>
+    ensures { IsReported (result_map_both (λ text. text.items) (λ fault. fault) made) (W.contents writer.old)
+        (W.contents writer.new) result (W.failures writer.old) (W.failures writer.new) }
+{
+    match made {
+        Ok(text) => {
+            write_text(writer, &text)?;
+            Ok(())
+        }
+        Err(fault) => Err(write_refusal(alloc, writer, fault)),
+    }
+}
+
 /// Writes the line that was made, or the one of the fault.
 pub(crate) fn report<W: Sink>(
     alloc: Global,

@@ -1,5 +1,4 @@
-use Rattle.std.proofs.Common.{inl, refl, Err}
-use Rattle.std.specs.Prelude.{string_bytes}
+use Rattle.std.proofs.Common.{inl, refl, ℕ, Vec, Err, Global}
 use Rattle.std.specs.Result.{result_map_both}
 use Rattle.sqlite.specs.Held.{state}
 use Rattle.cli_store.specs.StoreLog.{log_in, IsLogRead}
@@ -16,11 +15,11 @@ returns-in-Ok g c =
     let connects = g.P.StoreFiles.connects c.args.files path in
     let asked = c.in-Ok.asked in
     let got = c.asked_by-conn.result in
-    let made = result_map_both string_bytes (λ fault. fault) c.text_of.result in (
+    let made = result_map_both (λ (text : Vec ℕ Global). text.items) (λ fault. fault) c.text_of.result in (
       made,
       log_made shows c.args.stored.origin.now c.args.choice finds refuses connects asked got.0 (result_map_both log_in (λ fault. fault) got.1) made c.in-Ok.ensures
           (got_seen shows finds refuses connects log_in (IsLogRead asked.origin) got.0 got.1 c.asked_by-conn.ensures) c.text_of.ensures,
-      c.report.ensures,
+      c.report_octets.ensures,
     )
 
 pub returns-in-Err : goal.returns-in-Err

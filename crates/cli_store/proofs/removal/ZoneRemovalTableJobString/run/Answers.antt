@@ -1,6 +1,5 @@
 use Rattle.std.proofs.lemmas.Result.{err_from_is_err_and}
 use Rattle.std.specs.Prelude.{string_bytes}
-use Rattle.sqlite.specs.Held.{state}
 use Rattle.cli_store.proofs.RemovalLemmas.{not_found, unmade, went, stayed}
 use Rattle.cli_store.proofs.removal.ZoneRemovalTableJobString.run.Goals as goal
 
