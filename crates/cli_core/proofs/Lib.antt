@@ -6,5 +6,6 @@ pub mod MisuseLemmas
 pub mod DeviceLemmas
 pub mod JobLemmas
 pub mod DiffWordLemmas
+pub mod PlanWordLemmas
 pub mod SendLemmas
 pub mod StepLemmas

@@ -84,14 +84,14 @@ command_row command.Request = (codes "request", argument.Id ∷ argument.Split �
 command_row command.Import = (codes "import", argument.Store ∷ argument.ImportedOrigin ∷ argument.List ∷ argument.Replace ∷ [])
 command_row command.Export = (codes "export", argument.Store ∷ argument.Origin ∷ argument.At ∷ argument.Relative ∷ [])
 command_row command.Zones = (codes "zones", argument.Store ∷ [])
-command_row command.Log = (codes "log", argument.Store ∷ argument.Origin ∷ argument.From ∷ argument.Within ∷ argument.Asker ∷ [])
+command_row command.Log = (codes "log", argument.Store ∷ argument.Origin ∷ argument.From ∷ argument.Within ∷ argument.Asker ∷ argument.Json ∷ [])
 command_row command.Blame = (codes "blame", argument.Store ∷ argument.Origin ∷ argument.Within ∷ [])
 command_row command.Undo = (codes "undo", argument.Store ∷ argument.Origin ∷ argument.Changed ∷ argument.To ∷ [])
 command_row command.Migrate = (codes "migrate", argument.Store ∷ [])
 command_row command.Remove = (codes "remove", argument.Store ∷ argument.Origin ∷ [])
 command_row command.Rights =
-    (codes "rights", argument.Policy ∷ argument.Caller ∷ argument.Name ∷ argument.Type ∷ argument.Action ∷ [])
-command_row command.Plan = (codes "plan", argument.Policy ∷ argument.Caller ∷ argument.Answers ∷ argument.Explain ∷ [])
+    (codes "rights", argument.Policy ∷ argument.Caller ∷ argument.Name ∷ argument.Type ∷ argument.Action ∷ argument.Json ∷ [])
+command_row command.Plan = (codes "plan", argument.Policy ∷ argument.Caller ∷ argument.Answers ∷ argument.Explain ∷ argument.Json ∷ [])
 command_row command.Serve =
     (codes "serve", argument.Store ∷ argument.Policy ∷ argument.Listen ∷ argument.Connections ∷ argument.Patience ∷ argument.Longest ∷ argument.Memory ∷ [])
 command_row command.Check =

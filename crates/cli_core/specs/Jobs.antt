@@ -18,7 +18,9 @@ use Rattle.cli_core.specs.declared.job.DiffForm.{DiffForm}
 use Rattle.cli_core.specs.declared.job.DiffForm.TheVariants.{Items, Answers}
 use Rattle.cli_core.specs.declared.job.ItemForm.TheVariants.{Bare, Guarded}
 use Rattle.cli_core.specs.declared.job.PlanForm.{PlanForm}
-use Rattle.cli_core.specs.declared.job.PlanForm.TheVariants as plan_form
+use Rattle.cli_core.specs.declared.job.PlanForm.TheVariants.{Lines, Object}
+use Rattle.cli_core.specs.declared.job.PlanLines.TheVariants as plan_lines
+use Rattle.cli_core.specs.declared.job.PlanObject.TheVariants as plan_object
 use Rattle.cli_core.specs.declared.job.GuardScope.TheVariants.{Names, Sets}
 use Rattle.cli_core.specs.declared.job.ZoneForm.{ZoneForm}
 use Rattle.cli_core.specs.declared.job.ZoneForm.TheVariants.{Whole, Relative}
@@ -72,21 +74,30 @@ form_by false false true = Some Answers
 form_by _ _ _ = None
 
 abbrev pub tells_answers : PlanForm → Bool
-tells_answers plan_form.Records = false
-tells_answers plan_form.Answers = true
-tells_answers plan_form.Explained = false
+tells_answers (Lines plan_lines.Records) = false
+tells_answers (Lines plan_lines.Answers) = true
+tells_answers (Lines plan_lines.Explained) = false
+tells_answers (Object object) = false
 
 abbrev pub explains : PlanForm → Bool
-explains plan_form.Records = false
-explains plan_form.Answers = false
-explains plan_form.Explained = true
+explains (Lines plan_lines.Records) = false
+explains (Lines plan_lines.Answers) = false
+explains (Lines plan_lines.Explained) = true
+explains (Object plan_object.Reply) = false
+explains (Object plan_object.Explained) = true
 
--- the form of two flags, of which only one is given
-abbrev pub plan_form_by : Bool → Bool → Option PlanForm
-plan_form_by false false = Some plan_form.Records
-plan_form_by true false = Some plan_form.Answers
-plan_form_by false true = Some plan_form.Explained
-plan_form_by true true = None
+abbrev pub is_object : PlanForm → Bool
+is_object (Lines lines) = false
+is_object (Object object) = true
+
+-- the form of three flags: that of answers is given alone
+abbrev pub plan_form_by : Bool → Bool → Bool → Option PlanForm
+plan_form_by false false false = Some (Lines plan_lines.Records)
+plan_form_by true false false = Some (Lines plan_lines.Answers)
+plan_form_by false true false = Some (Lines plan_lines.Explained)
+plan_form_by false false true = Some (Object plan_object.Reply)
+plan_form_by false true true = Some (Object plan_object.Explained)
+plan_form_by _ _ _ = None
 
 abbrev pub is_json : TextForm → Bool
 is_json Plain = false
@@ -167,10 +178,13 @@ asks_text (text_job.Request w) = (command.Request, request_values w.form w.id.no
 asks_text (text_job.Rights w) = (
   command.Rights,
   (argument.Policy, given w.policy.now) ∷ (argument.Caller, given w.asked.caller.now) ∷ (argument.Name, given w.asked.name.now)
-      ∷ (argument.Type, given w.asked.record_type.now) ∷ (argument.Action, given w.asked.action.now) ∷ [],
+      ∷ (argument.Type, given w.asked.record_type.now) ∷ (argument.Action, given w.asked.action.now) ∷ (argument.Json, flag (is_json w.form)) ∷ [],
 )
-asks_text (text_job.Plan w) =
-    (command.Plan, (argument.Policy, given w.policy.now) ∷ (argument.Caller, given w.caller.now) ∷ (argument.Answers, flag (tells_answers w.form)) ∷ (argument.Explain, flag (explains w.form)) ∷ [])
+asks_text (text_job.Plan w) = (
+  command.Plan,
+  (argument.Policy, given w.policy.now) ∷ (argument.Caller, given w.caller.now) ∷ (argument.Answers, flag (tells_answers w.form)) ∷ (argument.Explain, flag (explains w.form))
+      ∷ (argument.Json, flag (is_object w.form)) ∷ [],
+)
 asks_text (text_job.Check w) = asks_check w
 asks_text (text_job.Policy w) = asks_policy w
 asks_text (text_job.Answer w) = (
@@ -201,7 +215,7 @@ asks_store (store_job.Zones w) = (command.Zones, (argument.Store, given w.store.
 asks_store (store_job.Log w) = (
   command.Log,
   stored w.zone ((argument.From, number w.choice.from) ∷ (argument.Within, text (option_map (λ n. n.now) w.choice.name))
-      ∷ (argument.Asker, text (option_map (λ c. c.now) w.choice.caller)) ∷ []),
+      ∷ (argument.Asker, text (option_map (λ c. c.now) w.choice.caller)) ∷ (argument.Json, flag (is_json w.choice.form)) ∷ []),
 )
 asks_store (store_job.Blame w) = (command.Blame, stored w.zone ((argument.Within, text (option_map (λ n. n.now) w.name)) ∷ []))
 asks_store (store_job.Undo w) = (command.Undo, stored w.zone ((argument.Changed, number w.first) ∷ (argument.To, number w.last) ∷ []))

@@ -96,6 +96,23 @@ pub fn write_refusal<W: Sink>(alloc: Global, writer: &mut W, fault: LineFault) -
     }
 }
 
+/// Writes the octets that were made of an input. On a failure, a line tells why.
+pub fn write_octets<W: Sink>(
+    alloc: Global,
+    writer: &mut W,
+    answer: Result<Vec<u8>, LineFault>,
+) -> Result<(), JobFault>
+    ensures { IsAnswerWritten (λ text. text.items) (W.contents writer.old) (W.contents writer.new) answer result (W.failures writer.old) (W.failures writer.new) }
+{
+    match answer {
+        Ok(text) => {
+            write_text(writer, &text)?;
+            Ok(())
+        }
+        Err(fault) => Err(write_refusal(alloc, writer, fault)),
+    }
+}
+
 /// Writes the text that was made of an input. On a failure, a line tells why.
 pub fn write_answer<W: Sink>(
     alloc: Global,

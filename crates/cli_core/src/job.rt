@@ -111,9 +111,27 @@ pub enum GuardScope {
     Sets,
 }
 
-/// What a plan prints.
+/// As what a plan is printed.
 #[derive(Clone, Copy)]
 pub enum PlanForm {
+    /// Lines for a person.
+    Lines(PlanLines),
+    /// An object of JSON (RFC 8259), for a program.
+    Object(PlanObject),
+}
+
+/// Which object a plan prints.
+#[derive(Clone, Copy)]
+pub enum PlanObject {
+    /// The reply, and of an update that would be made the records that go and come.
+    Reply,
+    /// These, and what the policy decides of each item.
+    Explained,
+}
+
+/// Which lines a plan prints.
+#[derive(Clone, Copy)]
+pub enum PlanLines {
     /// The reply, and of an update that would be made the records that go and come.
     Records,
     /// These, and the questions that a server answers otherwise then.
@@ -140,6 +158,8 @@ pub struct LogChoice<'a> {
     pub name: Option<&'a str>,
     /// Of which caller the receipts are, where one is given.
     pub caller: Option<&'a str>,
+    /// As what they are printed.
+    pub form: TextForm,
 }
 
 /// By which of the rules a zone is checked.

@@ -2,9 +2,13 @@ pub mod ItemLemmas
 pub mod LineLemmas
 pub mod PartLemmas
 pub mod ExplainedLemmas
+pub mod IdleLineLemmas
 pub mod PlanLemmas
+pub mod PointObjectLemmas
+pub mod PlanObjectLemmas
 pub mod QuestionLemmas
 pub mod AnswerObjectLemmas
+pub mod RightsObjectLemmas
 pub mod ReportLemmas
 pub mod OriginLemmas
 pub mod OriginLaws

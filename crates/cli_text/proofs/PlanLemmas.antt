@@ -12,9 +12,10 @@ use Rattle.office_core.specs.Permissions.{first_denial}
 use Rattle.office_core.specs.Machine.{zone_refusal}
 use Rattle.office_core.specs.Steps.{Makes, held_in}
 use Rattle.office_core.proofs.MadeLemmas.{never_made}
-use Rattle.cli_core.specs.declared.job.PlanForm.{PlanForm}
-use Rattle.cli_core.specs.declared.job.PlanForm.TheVariants.{Records, Answers, Explained}
-use Rattle.cli_text.specs.Plan.{AskerOf, ZoneUpdateOf, reply_line, change_lines, serial_line, plan_lines, planned, AreLinesOf, IsReplyText, AreLinesAfter}
+use Rattle.cli_core.specs.declared.job.PlanLines.{PlanLines}
+use Rattle.cli_core.specs.declared.job.PlanLines.TheVariants.{Records, Answers, Explained}
+use Rattle.cli_text.specs.IdleLines.{idle_lines}
+use Rattle.cli_text.specs.Plan.{AskerOf, ZoneUpdateOf, reply_line, change_lines, serial_line, plan_lines, planned, idle_lines_of, AreLinesOf, IsReplyText, AreLinesAfter}
 
 module _ (asker : AskerOf) (zone : ZoneOf) (update : UpdateOf) (reply : UpdateReply) (change : Option ChangeOf) where
   abbrev asked : ZoneUpdateOf
@@ -60,10 +61,14 @@ module _ (asker : AskerOf) (zone : ZoneOf) (update : UpdateOf) (reply : UpdateRe
       e ∙ (ap (λ bs. bs ++ serial_line (zone_after zone update)) so
       ∙ (append_assoc (reply_line reply) (change_lines change) (serial_line (zone_after zone update)) ∙ sym (lines_made makes is)))
 
-  pub text_made : (form : PlanForm) (old new : List ℕ) → Makes zone update refused reply change → reply ≡ NoError → old ≡ reply_line reply ++ change_lines change
-      → AreLinesAfter form zone (zone_after zone update) old new → IsReplyText form asker asked new
+  pub text_made : (form : PlanLines) (old new : List ℕ) → Makes zone update refused reply change → reply ≡ NoError → old ≡ reply_line reply ++ change_lines change
+      → AreLinesAfter form zone update old new → IsReplyText form asker asked new
   text_made Records old new makes is so after = lines_after old new makes is so after
-  text_made Explained old new makes is so after = lines_after old new makes is so after
+  text_made Explained old new makes is so after =
+      let whole = old ++ serial_line (zone_after zone update) in
+      let idle = idle_lines zone update in
+      after ∙ (ap (λ bs. bs ++ idle) (lines_after old whole makes is so refl)
+      ∙ ap (λ (r : Option UpdateReply). planned asker asked ++ idle_lines_of asked r) (sym (none_refused makes is)))
   text_made Answers old new makes is so after =
       let whole = old ++ serial_line (zone_after zone update) in (
         after.0,
@@ -71,9 +76,15 @@ module _ (asker : AskerOf) (zone : ZoneOf) (update : UpdateOf) (reply : UpdateRe
         after.2 ∙ ap (λ bs. bs ++ after.0) (lines_after old whole makes is so refl),
       )
 
-  pub text_refused : (form : PlanForm) (text : List ℕ) → Makes zone update refused reply change → reply ≢ NoError → text ≡ reply_line reply → IsReplyText form asker asked text
+  pub text_refused : (form : PlanLines) (text : List ℕ) → Makes zone update refused reply change → reply ≢ NoError → text ≡ reply_line reply → IsReplyText form asker asked text
   text_refused Records text makes other e = e ∙ sym (lines_refused makes other)
-  text_refused Explained text makes other e = e ∙ sym (lines_refused makes other)
+  text_refused Explained text makes other e = by_refusal refused refl makes
+    where
+      by_refusal : (r : Option UpdateReply) → refused ≡ r → Makes zone update r reply change → text ≡ planned asker asked ++ idle_lines_of asked refused
+      by_refusal None at made = absurd (other made.0)
+      by_refusal (Some r) at made =
+          e ∙ (sym (lines_refused makes other)
+          ∙ (sym (append-nil (planned asker asked)) ∙ ap (λ (x : Option UpdateReply). planned asker asked ++ idle_lines_of asked x) (sym at)))
   text_refused Answers text makes other e =
       ([], none_after refused makes, e ∙ (sym (lines_refused makes other) ∙ sym (append-nil (planned asker asked))))
     where

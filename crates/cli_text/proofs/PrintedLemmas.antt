@@ -11,6 +11,8 @@ use Rattle.grant_policy.specs.Documents.{document_of}
 use Rattle.grant_policy.specs.Faults.{Refuses}
 use Rattle.grant_policy.specs.Reading.{policy_of}
 use Rattle.policy_build.specs.declared.build_fault.BuildFault.{BuildFault}
+use Rattle.policy_build.specs.declared.build_fault.BuildFault.TheVariants as builds
+use Rattle.policy_build.specs.Faults.{Refuses as NotBuilt}
 use Rattle.policy_build.specs.Making.{BuiltOf, built_of, rules_made}
 use Rattle.policy_build.specs.Reading.{source_of}
 use Rattle.policy_build.specs.Sources.{SourceOf}
@@ -19,7 +21,7 @@ use Rattle.cli_core.specs.declared.commands.policy.PolicySource.TheVariants.{Gro
 use Rattle.cli_core.specs.declared.refusal.Refusal.{Refusal}
 use Rattle.cli_core.specs.declared.line_fault.LineFault.{LineFault}
 use Rattle.cli_core.specs.declared.line_fault.LineFault.TheVariants.{Refused, ReadFailed, NoMemory}
-use Rattle.cli_core.specs.LineFaults.{◌>>=◌, Gives, of_builds, of_names, of_policies, of_policy}
+use Rattle.cli_core.specs.LineFaults.{◌>>=◌, Gives, of_builds, of_names, of_groups, of_policies, of_policy}
 use Rattle.cli_text.specs.PrintedPolicies.{names_from, rules_from}
 use Rattle.cli_text.proofs.OriginLemmas.{texts}
 
@@ -87,6 +89,13 @@ module _ (text : List ℕ) (source : SourceOf) (built : BuiltOf) (read : source_
   -- what is read of their text are these rules
   pub policy_built : (again : Result (List Rule) PolicyFault) (policy : List Rule) → again ≡ Ok (rules_made built.rules) → again ≡ Ok policy → rules_from Groups text ≡ Ok policy
   policy_built again policy is reads = rules_built ∙ ap (λ (r : Result (List Rule) PolicyFault). of_policies r) (sym is ∙ reads)
+
+-- what is not built is refused
+pub build_refused : {X : Type 0} (view : X → List Rule) (text : List ℕ) (source : SourceOf) (fault : BuildFault) → source_of (document_of text) ≡ Ok source → NotBuilt fault (built_of source) → Gives view (Err (of_groups fault)) (rules_from Groups text)
+build_refused view text source builds.NoMemory read refused = tt
+build_refused view text source fault read refused =
+    ap (λ (r : Result SourceOf BuildFault). of_builds r >>= λ s. of_builds (built_of s) >>= λ b. Ok (rules_made b.rules)) read
+    ∙ ap (λ (r : Result BuiltOf BuildFault). of_builds r >>= λ b. Ok (rules_made b.rules)) refused
 
 -- it is never refused
 pub never_refused : {X Y : Type 0} (view : X → Y) (fault : PolicyFault) (rules : List Rule) (again : Result (List Rule) PolicyFault) (asked : Result Y Refusal) → again ≡ Ok rules → Refuses fault again → Gives view (Err (of_policy fault)) asked

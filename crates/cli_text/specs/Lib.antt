@@ -2,6 +2,7 @@ pub mod Canon
 pub mod Parts
 pub mod Apply
 pub mod PartViews
+pub mod RightsObjects
 pub mod Rights
 pub mod Explain
 pub mod Questions
@@ -36,6 +37,9 @@ pub mod Split
 pub mod PartLines
 pub mod SplitPromises
 pub mod SplitEffects
+pub mod PointObjects
 pub mod Explained
+pub mod IdleLines
+pub mod PlanObjects
 pub mod Plan
 pub mod ReachAnswers

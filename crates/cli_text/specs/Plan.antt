@@ -1,5 +1,5 @@
 -- What `plan` prints: what the office would answer to an update of a zone by a caller, what that would change, and in forms which questions
--- a server answers otherwise then, or what the policy decides of each item; of an input that is a master file, a line `--`, and items.
+-- a server answers otherwise then, or what the policy decides of each item; as lines or as an object of JSON; of an input that is a master file, a line `--`, and items.
 use Rattle.std.specs.Prelude.{◌≡◌, ℕ, List, [], ◌∷◌, ◌++◌, codes, decimal, Option, Some, None, Result, Ok, Err}
 use Rattle.std.specs.List.{flat_map}
 use Rattle.dns_data.specs.declared.record.Record.{Record}
@@ -19,7 +19,10 @@ use Rattle.office_model.specs.ReplyWords.{reply_words}
 use Rattle.cli_text.specs.declared.plan.Asker.{Asker}
 use Rattle.cli_text.specs.declared.plan.ZoneUpdate.{ZoneUpdate}
 use Rattle.cli_core.specs.declared.job.PlanForm.{PlanForm}
-use Rattle.cli_core.specs.declared.job.PlanForm.TheVariants.{Records, Answers, Explained}
+use Rattle.cli_core.specs.declared.job.PlanForm.TheVariants.{Lines, Object}
+use Rattle.cli_core.specs.declared.job.PlanLines.{PlanLines}
+use Rattle.cli_core.specs.declared.job.PlanLines.TheVariants.{Records, Answers, Explained}
+use Rattle.cli_core.specs.declared.job.PlanObject.{PlanObject}
 use Rattle.cli_core.specs.declared.refusal.Refusal.{Refusal}
 use Rattle.cli_core.specs.declared.refusal.Refusal.TheVariants.{NoCaller, NoDivider}
 use Rattle.cli_core.specs.declared.line_fault.JobFault.{JobFault}
@@ -31,6 +34,9 @@ use Rattle.cli_text.specs.Parts.{divided}
 use Rattle.cli_text.specs.Apply.{zone_of_text, update_behind}
 use Rattle.cli_text.specs.ChangedAnswerLines.{AreAnswerLines}
 use Rattle.cli_text.specs.Explained.{update_lines}
+use Rattle.cli_text.specs.IdleLines.{idle_lines}
+use Rattle.cli_text.specs.PointObjects.{items_value}
+use Rattle.cli_text.specs.PlanObjects.{outcome_of, outcome_object}
 use Rattle.cli_text.specs.Texts.{Told}
 use Rattle.cli_core.specs.Inputs.{InputOf}
 
@@ -107,23 +113,43 @@ abbrev pub AreLinesOf : ZoneUpdateOf → Option UpdateReply → List ℕ → Typ
 AreLinesOf u (Some refused) lines = lines ≡ []
 AreLinesOf u None lines = AreAnswerLines u.zone (zone_after u.zone u.update) lines
 
+-- ---- what does nothing
+
+-- the lines of the operations that change nothing, of an update that is made
+abbrev pub idle_lines_of : ZoneUpdateOf → Option UpdateReply → List ℕ
+idle_lines_of u (Some refused) = []
+idle_lines_of u None = idle_lines u.zone u.update
+
 -- the reply and what follows it, in a form
-abbrev pub IsReplyText : PlanForm → AskerOf → ZoneUpdateOf → List ℕ → Type 0
+abbrev pub IsReplyText : PlanLines → AskerOf → ZoneUpdateOf → List ℕ → Type 0
 IsReplyText Answers asker u text = (lines : List ℕ) × AreLinesOf u (plan_refusal asker u) lines × (text ≡ planned asker u ++ lines)
 IsReplyText Records asker u text = text ≡ planned asker u
-IsReplyText Explained asker u text = text ≡ planned asker u
+IsReplyText Explained asker u text = text ≡ planned asker u ++ idle_lines_of u (plan_refusal asker u)
 
--- what is printed, in a form: of one that explains, what the policy decides of all that the items ask for comes first
+-- the lines that are printed: of a plan that explains, what the policy decides of all that the items ask for comes first, and what does
+-- nothing last
+abbrev pub ArePlanLines : PlanLines → AskerOf → ZoneUpdateOf → List ℕ → Type 0
+ArePlanLines Records asker u text = IsReplyText Records asker u text
+ArePlanLines Answers asker u text = IsReplyText Answers asker u text
+ArePlanLines Explained asker u text =
+    text ≡ update_lines asker.rules asker.caller u.zone.origin u.update ++ (planned asker u ++ idle_lines_of u (plan_refusal asker u))
+
+-- the object that is printed: what becomes of the update, and of a plan that explains what is decided of all that the items ask for
+abbrev pub plan_object : PlanObject → AskerOf → ZoneUpdateOf → List ℕ
+plan_object object asker u =
+    outcome_object object (items_value asker.rules asker.caller u.zone.origin u.update) (outcome_of u.zone u.update (plan_refusal asker u))
+
+-- what is printed, in a form
 abbrev pub IsPlanText : PlanForm → AskerOf → ZoneUpdateOf → List ℕ → Type 0
-IsPlanText Records asker u text = IsReplyText Records asker u text
-IsPlanText Answers asker u text = IsReplyText Answers asker u text
-IsPlanText Explained asker u text = text ≡ update_lines asker.rules asker.caller u.zone.origin u.update ++ planned asker u
+IsPlanText (Lines lines) asker u text = ArePlanLines lines asker u text
+IsPlanText (Object object) asker u text = text ≡ plan_object object asker u ++ 10 ∷ []
 
--- what is appended in a form to a text, of a zone before an update and after it
-abbrev pub AreLinesAfter : PlanForm → ZoneOf → ZoneOf → List ℕ → List ℕ → Type 0
-AreLinesAfter Records before after old new = new ≡ old ++ serial_line after
-AreLinesAfter Explained before after old new = new ≡ old ++ serial_line after
-AreLinesAfter Answers before after old new = (lines : List ℕ) × AreAnswerLines before after lines × (new ≡ (old ++ serial_line after) ++ lines)
+-- what is appended in a form to a text, of a zone and an update of it
+abbrev pub AreLinesAfter : PlanLines → ZoneOf → UpdateOf → List ℕ → List ℕ → Type 0
+AreLinesAfter Records zone update old new = new ≡ old ++ serial_line (zone_after zone update)
+AreLinesAfter Explained zone update old new = new ≡ (old ++ serial_line (zone_after zone update)) ++ idle_lines zone update
+AreLinesAfter Answers zone update old new =
+    (lines : List ℕ) × AreAnswerLines zone (zone_after zone update) lines × (new ≡ (old ++ serial_line (zone_after zone update)) ++ lines)
 
 -- ---- the zone and the update
 

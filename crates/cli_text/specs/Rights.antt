@@ -9,8 +9,11 @@ use Rattle.grant_policy.specs.Reading.{identifier_of, type_of, policy_of}
 use Rattle.cli_core.specs.declared.refusal.Refusal.{Refusal}
 use Rattle.cli_core.specs.declared.refusal.Refusal.TheVariants.{NoCaller, TypeNotKept, NoAction}
 use Rattle.cli_core.specs.declared.job.QuestionWords.{QuestionWords}
+use Rattle.cli_core.specs.declared.job.TextForm.{TextForm}
+use Rattle.cli_core.specs.declared.job.TextForm.TheVariants.{Plain, Json}
 use Rattle.cli_text.specs.declared.rights.QuestionRead.{QuestionRead}
 use Rattle.cli_core.specs.LineFaults.{◌>>=◌, or_refused, limited, of_names, of_policies}
+use Rattle.cli_text.specs.RightsObjects.{verdict_object}
 
 -- the caller that a word is, if one is given
 abbrev pub caller_if : Option (List ℕ) → Result (Option (List ℕ)) Refusal
@@ -37,10 +40,15 @@ verdict_word (denied id) = codes "denied "
 abbrev pub verdict_line : Verdict → List ℕ
 verdict_line verdict = verdict_word verdict ++ decider verdict ++ 10 ∷ []
 
+-- a decision, as what it is printed
+abbrev pub verdict_in_form : TextForm → Verdict → List ℕ
+verdict_in_form Plain verdict = verdict_line verdict
+verdict_in_form Json verdict = verdict_object verdict ++ 10 ∷ []
+
 -- what the policy of a text decides
-abbrev pub decided_by : Question → List ℕ → Result (List ℕ) Refusal
-decided_by asked text = of_policies (policy_of (document_of text)) >>= λ rules. Ok (verdict_line (decision asked rules))
+abbrev pub decided_by : TextForm → Question → List ℕ → Result (List ℕ) Refusal
+decided_by form asked text = of_policies (policy_of (document_of text)) >>= λ rules. Ok (verdict_in_form form (decision asked rules))
 
 -- what is asked by words, of a policy that is the input
-abbrev pub rights_text : QuestionWords → List ℕ → Result (List ℕ) Refusal
-rights_text words input = question_of words >>= λ asked. limited input >>= decided_by asked
+abbrev pub rights_text : TextForm → QuestionWords → List ℕ → Result (List ℕ) Refusal
+rights_text form words input = question_of words >>= λ asked. limited input >>= decided_by form asked

@@ -1,19 +1,27 @@
 //! What the office would answer to an update of a zone.
 
-ghost use Rattle.std.specs.Prelude.{◌≡◌, ◌++◌, ◌<◌, ℕ, IfOk, OnOk, option_map, string_bytes};
+ghost use Rattle.std.specs.Prelude.{◌≡◌, ◌++◌, ◌∷◌, [], ◌<◌, ℕ, IfOk, OnOk, option_map, string_bytes};
 ghost use Rattle.zone_core.specs.Changes.{change_in};
 ghost use Rattle.zone_core.specs.Updates.{ActsWithin};
 ghost use Rattle.zone_core.specs.Effects.{zone_after};
 ghost use Rattle.cli_core.specs.LineFaults.{Gives, GivesOf};
 ghost use Rattle.cli_text.specs.Texts.{GivesText, Told};
-ghost use Rattle.cli_text.specs.Plan.{asker_in, asker_of, asker_read, reply_line, signed_lines, change_lines, serial_line, zone_update, zone_update_in, zone_update_read, AreLinesAfter, IsReplyText, IsPlanText, IsAskerRead, IsPlanned};
+ghost use Rattle.cli_text.specs.Plan.{asker_in, asker_of, asker_read, reply_line, signed_lines, change_lines, serial_line, zone_update, zone_update_in, zone_update_read, plan_refusal, plan_object, AreLinesAfter, ArePlanLines, IsReplyText, IsPlanText, IsAskerRead, IsPlanned};
+ghost use Rattle.cli_text.specs.Explained.{update_texts};
+ghost use Rattle.cli_text.specs.PlanObjects.{items_piece, outcome_in, outcome_of};
+ghost use Rattle.cli_text.specs.PointObjects.{items_value};
 
 use crate::apply::{InputRead, read_parts, zone_of_records};
 use crate::changed_answers::answer_lines;
 use crate::explained::Explainer;
+use crate::idle_lines::push_idle_lines;
 use crate::plan_fault::PlanFault;
+use crate::plan_object::{Outcome, push_outcome};
 use crate::rights::read_caller;
-use cli_core::{Input, JobFault, LineFault, PlanForm, read_input, write_answer, write_refusal};
+use cli_core::{
+    Input, JobFault, LineFault, PlanForm, PlanLines, PlanObject, TextForm, read_input,
+    write_octets, write_refusal,
+};
 use dns_data::Record;
 use dns_master::Sink;
 use grant_policy::{Identifier, Policy, read_policy};
@@ -92,28 +100,33 @@ fn push_serial(text: &mut String, zone: &Zone) -> Result<(), AllocError>
     writeln!(text, "serial {serial}")
 }
 
-/// Appends the line of the serial of a zone after an update of it, and in a form the lines of the questions that a server answers otherwise
-/// then. The only error is out of memory.
+/// Appends the line of the serial of a zone after an update of it; and in forms the lines of the questions that a server answers otherwise
+/// then, or those of the operations that change nothing. The only error is out of memory.
 fn push_after(
     alloc: Global,
     text: &mut String,
-    form: PlanForm,
+    lines: PlanLines,
     zone: Zone,
     update: &Update,
 ) -> Result<(), AllocError>
     requires { ActsWithin zone.origin update.now }
-    ensures { OnOk result (AreLinesAfter form zone (zone_after zone update.now) (string_bytes text.old) (string_bytes text.new)) }
+    ensures { OnOk result (AreLinesAfter lines zone update.now (string_bytes text.old) (string_bytes text.new)) }
 {
-    match form {
-        PlanForm::Records | PlanForm::Explained => {
+    match lines {
+        PlanLines::Records => {
             let outcome = apply_owned(alloc, zone, update)?;
             push_serial(text, &outcome.zone)
         }
-        PlanForm::Answers => {
+        PlanLines::Explained => {
             let outcome = apply(alloc, &zone, update)?;
             push_serial(text, &outcome.zone)?;
-            let lines = answer_lines(alloc, zone, outcome.zone)?;
-            text.push_str(&lines)
+            push_idle_lines(alloc, text, &zone, update)
+        }
+        PlanLines::Answers => {
+            let outcome = apply(alloc, &zone, update)?;
+            push_serial(text, &outcome.zone)?;
+            let answers = answer_lines(alloc, zone, outcome.zone)?;
+            text.push_str(&answers)
         }
     }
 }
@@ -122,33 +135,124 @@ fn push_after(
 fn reply_text(
     alloc: Global,
     asker: &Asker,
-    form: PlanForm,
+    lines: PlanLines,
     asked: ZoneUpdate,
 ) -> Result<String, AllocError>
-    ensures { IfOk result (λ text. IsReplyText form (asker_in asker.now) (zone_update asked) (string_bytes text)) }
+    ensures { IfOk result (λ text. IsReplyText lines (asker_in asker.now) (zone_update asked) (string_bytes text)) }
 {
     let ZoneUpdate { zone, update } = asked;
     let (reply, change) = plan(alloc, &asker.policy, &asker.caller, &zone, &update)?;
     let mut text = reply_line(alloc, &reply)?;
     if let UpdateReply::NoError = reply {
         push_change(&mut text, &change)?;
-        push_after(alloc, &mut text, form, zone, &update)?;
+        push_after(alloc, &mut text, lines, zone, &update)?;
     }
     Ok(text)
 }
 
-/// What the policy decides of each item, and then what the office would answer and change, in lines. The only error is out of memory.
-fn explained(alloc: Global, asker: &Asker, asked: ZoneUpdate) -> Result<String, AllocError>
-    ensures { IfOk result (λ text. IsPlanText PlanForm.Explained (asker_in asker.now) (zone_update asked) (string_bytes text)) }
+/// What the policy decides of each item, in a form. The only error is out of memory.
+fn decided_items(
+    alloc: Global,
+    asker: &Asker,
+    form: TextForm,
+    asked: &ZoneUpdate,
+) -> Result<Vec<u8>, AllocError>
+    ensures { IfOk result (λ text. text.items ≡ update_texts form asker.now.policy asker.now.caller asked.now.zone.origin asked.now.update) }
 {
     let explainer = Explainer {
         policy: &asker.policy,
         caller: &asker.caller,
+        form,
+        alloc,
     };
-    let mut text = String::new(alloc);
+    let mut text = Vec::new(alloc);
     explainer.push_update(&mut text, asked.zone.origin(), &asked.update)?;
-    let reply = reply_text(alloc, asker, PlanForm::Explained, asked)?;
-    text.push_str(&reply)?;
+    Ok(text)
+}
+
+/// What the policy decides of each item, and then what the office would answer and change, in lines. The only error is out of memory.
+fn explained(alloc: Global, asker: &Asker, asked: ZoneUpdate) -> Result<Vec<u8>, AllocError>
+    ensures { IfOk result (λ text. ArePlanLines PlanLines.Explained (asker_in asker.now) (zone_update asked) text.items) }
+{
+    let mut text = decided_items(alloc, asker, TextForm::Plain, &asked)?;
+    let reply = reply_text(alloc, asker, PlanLines::Explained, asked)?;
+    text.extend_from_slice(reply.as_bytes())?;
+    Ok(text)
+}
+
+/// The lines that are printed of an update of a zone. The only error is out of memory.
+fn lines_text(
+    alloc: Global,
+    asker: &Asker,
+    lines: PlanLines,
+    asked: ZoneUpdate,
+) -> Result<Vec<u8>, AllocError>
+    ensures { IfOk result (λ text. ArePlanLines lines (asker_in asker.now) (zone_update asked) text.items) }
+{
+    match lines {
+        PlanLines::Explained => explained(alloc, asker, asked),
+        lines => Ok(reply_text(alloc, asker, lines, asked)?.into_bytes()),
+    }
+}
+
+/// The member of what the policy decides of each item, and a comma. The only error is out of memory.
+fn all_items(alloc: Global, asker: &Asker, asked: &ZoneUpdate) -> Result<Vec<u8>, AllocError>
+    ensures { IfOk result
+        (λ text. text.items ≡ items_piece PlanObject.Explained (items_value asker.now.policy asker.now.caller asked.now.zone.origin asked.now.update)) }
+{
+    let mut items = decided_items(alloc, asker, TextForm::Json, asked)?;
+    // An array has commas only between its values (RFC 8259 section 5).
+    items.truncate(items.len().saturating_sub(1));
+    let mut text = Vec::from_slice(alloc, r#""items":["#.as_bytes())?;
+    text.extend_from_slice(&items)?;
+    text.extend_from_slice(b"],")?;
+    Ok(text)
+}
+
+/// That member, if the object has it. The only error is out of memory.
+fn items_if(
+    alloc: Global,
+    asker: &Asker,
+    object: PlanObject,
+    asked: &ZoneUpdate,
+) -> Result<Vec<u8>, AllocError>
+    ensures { IfOk result (λ text. text.items ≡ items_piece object (items_value asker.now.policy asker.now.caller asked.now.zone.origin asked.now.update)) }
+{
+    match object {
+        PlanObject::Reply => Ok(Vec::new(alloc)),
+        PlanObject::Explained => all_items(alloc, asker, asked),
+    }
+}
+
+/// What becomes of an update of a zone. The only error is out of memory.
+fn outcome_of(alloc: Global, asker: &Asker, asked: ZoneUpdate) -> Result<Outcome, AllocError>
+    ensures { IfOk result (λ outcome. outcome_in outcome ≡ outcome_of asked.zone asked.update (plan_refusal (asker_in asker.now) (zone_update asked))) }
+{
+    let ZoneUpdate { zone, update } = asked;
+    let (reply, change) = plan(alloc, &asker.policy, &asker.caller, &zone, &update)?;
+    match reply {
+        UpdateReply::NoError => {
+            let outcome = apply_owned(alloc, zone, &update)?;
+            let serial = outcome.zone.serial();
+            Ok(Outcome::Made { change, serial })
+        }
+        refused => Ok(Outcome::Refused(refused)),
+    }
+}
+
+/// The object that is printed of an update of a zone, and a line end. The only error is out of memory.
+fn object_text(
+    alloc: Global,
+    asker: &Asker,
+    object: PlanObject,
+    asked: ZoneUpdate,
+) -> Result<Vec<u8>, AllocError>
+    ensures { IfOk result (λ text. text.items ≡ plan_object object (asker_in asker.now) (zone_update asked) ++ 10 ∷ []) }
+{
+    let items = items_if(alloc, asker, object, &asked)?;
+    let outcome = outcome_of(alloc, asker, asked)?;
+    let mut text = Vec::new(alloc);
+    push_outcome(alloc, &mut text, &items, outcome)?;
     Ok(text)
 }
 
@@ -158,12 +262,12 @@ fn planned(
     asker: &Asker,
     form: PlanForm,
     asked: ZoneUpdate,
-) -> Result<String, AllocError>
-    ensures { IfOk result (λ text. IsPlanText form (asker_in asker.now) (zone_update asked) (string_bytes text)) }
+) -> Result<Vec<u8>, AllocError>
+    ensures { IfOk result (λ text. IsPlanText form (asker_in asker.now) (zone_update asked) text.items) }
 {
     match form {
-        PlanForm::Explained => explained(alloc, asker, asked),
-        form => reply_text(alloc, asker, form, asked),
+        PlanForm::Lines(lines) => lines_text(alloc, asker, lines, asked),
+        PlanForm::Object(object) => object_text(alloc, asker, object, asked),
     }
 }
 
@@ -193,8 +297,8 @@ fn answer<R: Input>(
     asker: &Asker,
     form: PlanForm,
     reader: &mut R,
-) -> Result<String, LineFault>
-    ensures { GivesText string_bytes (IsPlanText form (asker_in asker.now)) zone_update_read (R.left reader.old) result (R.fine reader.old reader.new)
+) -> Result<Vec<u8>, LineFault>
+    ensures { GivesText (λ text. text.items) (IsPlanText form (asker_in asker.now)) zone_update_read (R.left reader.old) result (R.fine reader.old reader.new)
         (R.failed reader.old reader.new) }
 {
     let asked = read_zone_update(alloc, reader)?;
@@ -212,7 +316,7 @@ fn write_plan<R: Input, W: Sink>(
     ensures { Told (IsPlanText form (asker_in asker)) zone_update_read (R.left reader.old) (W.contents writer.old) (W.contents writer.new) result
         (R.fine reader.old reader.new) (R.failed reader.old reader.new) (W.failures writer.old) (W.failures writer.new) }
 {
-    write_answer(alloc, writer, answer(alloc, &asker, form, reader))
+    write_octets(alloc, writer, answer(alloc, &asker, form, reader))
 }
 
 /// The caller of a word, and the policy that a reader gives. On a failure, a line tells why.
@@ -233,7 +337,8 @@ fn first_asker<R: Input, W: Sink>(
 
 /// Writes what the office would answer to an update of a zone by a caller: the reply in words, as a receipt has it; and of an update that
 /// would be made the records that go, after `-`, those that come, after `+`, and the serial; and in forms, after it the lines of the
-/// questions that a server answers otherwise then, as `do_diff` writes them, or before it what the policy decides of each item. One input is the policy, and another the
+/// questions that a server answers otherwise then, as `do_diff` writes them, or before it what the policy decides of each item; or the
+/// reply as the office answers it over HTTP, and the rest, as an object of JSON. One input is the policy, and another the
 /// master file of the zone, a line `--` and the items. Otherwise one line tells the refusal that comes first: of the caller, that the
 /// policy is too large, of the policy; and of the other input, which is read after it, that it is too large, that it has no divider, of
 /// the master file, of its records as a zone, of the items.

@@ -6,12 +6,14 @@ ghost use Rattle.grant_policy.specs.Decisions.{verdict_of};
 ghost use Rattle.grant_policy.specs.Reading.{identifier_of, type_of};
 ghost use Rattle.grant_policy.specs.Words.{action_of};
 ghost use Rattle.cli_core.specs.LineFaults.{Gives, GivesOf, or_refused};
-ghost use Rattle.cli_text.specs.Rights.{caller_if, question_in, question_of, verdict_line, decided_by, rights_text};
+ghost use Rattle.cli_text.specs.Rights.{caller_if, question_in, question_of, verdict_line, verdict_in_form, decided_by, rights_text};
 
 use crate::canon::read_name;
+use crate::rights_object::decision_object;
 use crate::task::Task;
 use cli_core::{
-    Input, JobFault, LineFault, QuestionWords, Refusal, read_input, write_refusal, write_text,
+    Input, JobFault, LineFault, QuestionWords, Refusal, Rights, TextForm, read_input,
+    write_refusal, write_text,
 };
 use dns_data::RecordType;
 use dns_master::Sink;
@@ -98,9 +100,28 @@ pub(crate) fn decision_text(alloc: Global, decision: Decision<'_>) -> Result<Vec
     Ok(text)
 }
 
-/// What the policy of a text decides, as a line.
-fn decided_by(alloc: Global, asked: &QuestionRead, text: &[u8]) -> Result<Vec<u8>, LineFault>
-    ensures { Gives (λ line. line.items) result (decided_by (question_in asked.now) text.now) }
+/// What tells a decision, as a line or as JSON. The only error is out of memory.
+fn decision_in_form(
+    alloc: Global,
+    form: TextForm,
+    decision: Decision<'_>,
+) -> Result<Vec<u8>, AllocError>
+    ensures { IfOk result (λ text. text.items ≡ verdict_in_form form (verdict_of decision.entry)) }
+{
+    match form {
+        TextForm::Plain => decision_text(alloc, decision),
+        TextForm::Json => decision_object(alloc, decision),
+    }
+}
+
+/// What the policy of a text decides, in a form.
+fn decided_by(
+    alloc: Global,
+    form: TextForm,
+    asked: &QuestionRead,
+    text: &[u8],
+) -> Result<Vec<u8>, LineFault>
+    ensures { Gives (λ line. line.items) result (decided_by form (question_in asked.now) text.now) }
 {
     let policy = read_policy(alloc, text)?;
     let decision = decide(
@@ -111,28 +132,24 @@ fn decided_by(alloc: Global, asked: &QuestionRead, text: &[u8]) -> Result<Vec<u8
         asked.action,
         &mut LookUps::new(),
     );
-    Ok(decision_text(alloc, decision)?)
+    Ok(decision_in_form(alloc, form, decision)?)
 }
 
-/// What a policy that a reader gives decides on what words ask, as a line.
-fn answer<R: Input>(
-    alloc: Global,
-    words: QuestionWords<'_>,
-    policy: &mut R,
-) -> Result<Vec<u8>, LineFault>
-    ensures { GivesOf (λ line. line.items) (R.left policy.old) (rights_text words.entry) result (R.fine policy.old policy.new)
+/// What a policy that a reader gives decides on what words ask, in their form.
+fn answer<R: Input>(alloc: Global, words: Rights<'_>, policy: &mut R) -> Result<Vec<u8>, LineFault>
+    ensures { GivesOf (λ line. line.items) (R.left policy.old) (rights_text words.entry.form words.entry.asked) result (R.fine policy.old policy.new)
         (R.failed policy.old policy.new) }
 {
-    let asked = QuestionRead::of(alloc, words)?;
+    let asked = QuestionRead::of(alloc, words.asked)?;
     let text = read_input(alloc, policy)?;
-    decided_by(alloc, &asked, &text)
+    decided_by(alloc, words.form, &asked, &text)
 }
 
-/// The task `rights`: to read a policy, and to write `granted` or `denied` and the rule that decided, or `closing` where none did.
-/// Otherwise one line tells the refusal that comes first: of the caller, the name, the type, the action, that the policy is too
-/// large, of the policy.
-impl Task for QuestionWords<'_> {
-    ghost answer = { rights_text };
+/// The task `rights`: to read a policy, and to write `granted` or `denied` and the rule that decided, or `closing` where none did; or
+/// both as an object of JSON. Otherwise one line tells the refusal that comes first: of the caller, the name, the type, the action, that
+/// the policy is too large, of the policy.
+impl Task for Rights<'_> {
+    ghost answer = { λ w. rights_text w.form w.asked };
 
     fn run<R: Input, W: Sink>(
         self,

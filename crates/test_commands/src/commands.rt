@@ -22,6 +22,11 @@ fn is_diff(verb: &str) -> bool {
     verb.starts_with("diff") || verb.starts_with("edit")
 }
 
+/// Whether a verb asks for a plan.
+fn is_plan(verb: &str) -> bool {
+    verb.starts_with("plan")
+}
+
 /// Appends the answer to a row of commands.
 pub fn push_command_answer(
     alloc: Global,
@@ -38,9 +43,7 @@ pub fn push_command_answer(
         "heads" => push_heads(alloc, text, answer),
         verb if is_diff(verb) => push_diff(alloc, row, answer),
         "answers" | "answers-json" | "answers-reads" => push_answers(alloc, row, answer),
-        "plan" | "plan-answers" | "plan-explained" | "plan-reads" | "plan-write" => {
-            push_plan(alloc, row, answer)
-        }
+        verb if is_plan(verb) => push_plan(alloc, row, answer),
         "expect" | "expect-reads" => push_expect(alloc, row, answer),
         "beside" | "beside-reads" => push_zones(alloc, row, answer),
         "reach" | "reach-reads" | "reach-write" => push_reach(alloc, row, answer),

@@ -1,7 +1,7 @@
 //! Rows of commands that need no store, and of the words of a command line. The wanted answers are written by hand, from the formats
 //! and from worked examples.
 //!
-//! `commands`: `apply`, `canon ORIGIN`, `canon-relative ORIGIN`, `request ID`, `split ID`, `rights CALLER|NAME|TYPE|ACTION`, `check`,
+//! `commands`: `apply`, `canon ORIGIN`, `canon-relative ORIGIN`, `request ID`, `split ID`, `rights CALLER|NAME|TYPE|ACTION` and `rights-json`, `check`,
 //! `isolation CALLER`, `build ZONES`, `print ZONES` and `explain NUMBER|FORM` give the body to the command, and print what it prints, and its exit status with the words
 //! of the refusal. In front of a command stands `many`, where each line of the body has before it how often it comes; `pieces N`, where the
 //! devices move at most N octets a call; `reads N COUNT` or `writes N COUNT`, where they do and so many of the calls fail, each in a run of
@@ -12,8 +12,8 @@
 //! `diff-guarded-sets` those on sets only; `edit ORIGIN`, `edit-guarded` and `edit-guarded-sets` print what `apply` makes of the first and
 //! the items; in `diff-reads` the first read of each file fails, and in `diff-write` the first write.
 //!
-//! `plan CALLER` gives a policy, and after a line `==` what `apply` reads, to the command, and `plan-answers` and `plan-explained` ask for
-//! these forms; in `plan-reads` the first read of each input
+//! `plan CALLER` gives a policy, and after a line `==` what `apply` reads, to the command, and `plan-answers`, `plan-explained`, `plan-json` and
+//! `plan-explained-json` ask for these forms; in `plan-reads` the first read of each input
 //! fails, and in `plan-write` the first write.
 //!
 //! `reach CALLER|ORIGIN` gives a policy, and after a line `==` a master file, to the command; in `reach-reads` the first read of each input

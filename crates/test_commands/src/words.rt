@@ -2,8 +2,9 @@
 
 use cli_core::{
     Advice, Answer, Check, DiffForm, Existing, GuardScope, ItemForm, Job, LogChoice, PlanForm,
-    PolicySource, PolicyText, QuestionWords, RequestForm, RuleChoice, Service, StoreJob,
-    StoredZone, TextForm, TextJob, WordsFault, ZoneFiles, ZoneForm, ZoneRules, read_words,
+    PlanLines, PlanObject, PolicySource, PolicyText, QuestionWords, RequestForm, RuleChoice,
+    Service, StoreJob, StoredZone, TextForm, TextJob, WordsFault, ZoneFiles, ZoneForm, ZoneRules,
+    read_words,
 };
 use std::alloc::{AllocError, Global};
 use test_rows::Row;
@@ -88,7 +89,10 @@ fn push_text_job(alloc: Global, job: &TextJob<'_>, answer: &mut Vec<u8>) -> Resu
         TextJob::Request(words) => {
             push_given("request", words.id, request_text(words.form), answer)
         }
-        TextJob::Rights(words) => push_question(words.policy, &words.asked, answer),
+        TextJob::Rights(words) => {
+            push_question(words.policy, &words.asked, answer)?;
+            push(json_text(words.form), answer)
+        }
         TextJob::Plan(words) => {
             push_plan(words.policy, words.caller, plan_text(words.form), answer)
         }
@@ -275,9 +279,11 @@ fn push_plan(
 
 fn plan_text(form: PlanForm) -> &'static str {
     match form {
-        PlanForm::Records => "",
-        PlanForm::Answers => " answers",
-        PlanForm::Explained => " explained",
+        PlanForm::Lines(PlanLines::Records) => "",
+        PlanForm::Lines(PlanLines::Answers) => " answers",
+        PlanForm::Lines(PlanLines::Explained) => " explained",
+        PlanForm::Object(PlanObject::Reply) => " json",
+        PlanForm::Object(PlanObject::Explained) => " explained json",
     }
 }
 
@@ -298,7 +304,8 @@ fn push_log(
     push_zone("log", zone, "", answer)?;
     push_number(alloc, " from ", choice.from, answer)?;
     push_named(" name", choice.name, answer)?;
-    push_named(" caller", choice.caller, answer)
+    push_named(" caller", choice.caller, answer)?;
+    push(json_text(choice.form), answer)
 }
 
 /// Appends what a word is, and the word, if one is given.
@@ -361,6 +368,14 @@ fn push_explain(
 fn text_form(form: TextForm) -> &'static str {
     match form {
         TextForm::Plain => " plain",
+        TextForm::Json => " json",
+    }
+}
+
+/// What is told of a form that is plain if nothing is.
+fn json_text(form: TextForm) -> &'static str {
+    match form {
+        TextForm::Plain => "",
         TextForm::Json => " json",
     }
 }

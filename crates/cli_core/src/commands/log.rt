@@ -5,7 +5,7 @@ ghost use Rattle.cli_core.specs.declared.commands.Command.TheVariants as command
 use crate::argument::Argument;
 use crate::commands::{CommandWords, Row};
 use crate::job::{Job, LogChoice, StoreJob, StoredZone};
-use crate::matched::{number_at, text_at, zone_at};
+use crate::matched::{number_at, text_at, text_form_at, zone_at};
 use clap::ArgMatches;
 
 /// The words of `log`.
@@ -27,6 +27,7 @@ pub(super) static ROW: Row = Row {
         Argument::From,
         Argument::Within,
         Argument::Asker,
+        Argument::Json,
     ],
 };
 
@@ -38,7 +39,13 @@ impl<'a> CommandWords<'a> for Log<'a> {
         let from = number_at(matches, Argument::From)?;
         let name = text_at(matches, Argument::Within);
         let caller = text_at(matches, Argument::Asker);
-        let choice = LogChoice { from, name, caller };
+        let form = text_form_at(matches);
+        let choice = LogChoice {
+            from,
+            name,
+            caller,
+            form,
+        };
         Some(Job::Store(StoreJob::Log(Log { zone, choice })))
     }
 }

@@ -10,7 +10,7 @@ ghost use Rattle.cli_core.specs.declared.commands.Command.TheVariants as command
 
 use crate::argument::Argument;
 use crate::commands::{CommandWords, Row};
-use crate::job::{Job, PlanForm, TextJob};
+use crate::job::{Job, PlanForm, PlanLines, PlanObject, TextJob};
 use crate::matched::{flag_at, texts_at};
 use clap::ArgMatches;
 
@@ -34,22 +34,27 @@ pub(super) static ROW: Row = Row {
         Argument::Caller,
         Argument::Answers,
         Argument::Explain,
+        Argument::Json,
     ],
 };
 
-/// What is printed, unless two forms are asked for.
+/// What is printed, unless answers are asked for with what is decided or as JSON.
 fn form_at(matches: &ArgMatches<'_>) -> Option<PlanForm>
     ensures { result ≡ plan_form_by (flag_if (first_of (argument_name argument.Answers) (rows_of (found_of matches.now))))
-        (flag_if (first_of (argument_name argument.Explain) (rows_of (found_of matches.now)))) }
+        (flag_if (first_of (argument_name argument.Explain) (rows_of (found_of matches.now))))
+        (flag_if (first_of (argument_name argument.Json) (rows_of (found_of matches.now)))) }
 {
     match (
         flag_at(matches, Argument::Answers),
         flag_at(matches, Argument::Explain),
+        flag_at(matches, Argument::Json),
     ) {
-        (false, false) => Some(PlanForm::Records),
-        (true, false) => Some(PlanForm::Answers),
-        (false, true) => Some(PlanForm::Explained),
-        (true, true) => None,
+        (false, false, false) => Some(PlanForm::Lines(PlanLines::Records)),
+        (true, false, false) => Some(PlanForm::Lines(PlanLines::Answers)),
+        (false, true, false) => Some(PlanForm::Lines(PlanLines::Explained)),
+        (false, false, true) => Some(PlanForm::Object(PlanObject::Reply)),
+        (false, true, true) => Some(PlanForm::Object(PlanObject::Explained)),
+        _ => None,
     }
 }
 

@@ -4,8 +4,8 @@ ghost use Rattle.cli_core.specs.declared.commands.Command.TheVariants as command
 
 use crate::argument::Argument;
 use crate::commands::{CommandWords, Row};
-use crate::job::{Job, QuestionWords, TextJob};
-use crate::matched::{text_at, texts_at};
+use crate::job::{Job, QuestionWords, TextForm, TextJob};
+use crate::matched::{text_at, text_form_at, texts_at};
 use clap::ArgMatches;
 
 /// The words of `rights`.
@@ -15,6 +15,8 @@ pub struct Rights<'a> {
     pub policy: &'a str,
     /// What is asked.
     pub asked: QuestionWords<'a>,
+    /// As what the decision is printed.
+    pub form: TextForm,
 }
 
 pub(super) static ROW: Row = Row {
@@ -27,6 +29,7 @@ pub(super) static ROW: Row = Row {
         Argument::Name,
         Argument::Type,
         Argument::Action,
+        Argument::Json,
     ],
 };
 
@@ -43,6 +46,10 @@ impl<'a> CommandWords<'a> for Rights<'a> {
             record_type,
             action,
         };
-        Some(Job::Text(TextJob::Rights(Rights { policy, asked })))
+        Some(Job::Text(TextJob::Rights(Rights {
+            policy,
+            asked,
+            form: text_form_at(matches),
+        })))
     }
 }

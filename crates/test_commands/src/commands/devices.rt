@@ -1,7 +1,9 @@
 //! Commands, and the devices that they read and write.
 
 use crate::commands::trials::{Devices, Trial, tried};
-use cli_core::{Answer, Canon, Explain, JobFault, PolicySource, QuestionWords, TextForm, ZoneForm};
+use cli_core::{
+    Answer, Canon, Explain, JobFault, PolicySource, QuestionWords, Rights, TextForm, ZoneForm,
+};
 use cli_text::{Apply, Findings, Request, Split, Subject, Task, do_check};
 use dns_master::{Pieces, Sink, Source};
 use std::alloc::{AllocError, Global};
@@ -56,7 +58,13 @@ impl Command<'_> {
             }
             "request" => self.run_task(alloc, Request { id: words }, reading, writing),
             "split" => self.run_task(alloc, Split { id: words }, reading, writing),
-            "rights" => self.run_task(alloc, question(words), reading, writing),
+            "rights" => self.run_task(alloc, question(words, TextForm::Plain), reading, writing),
+            "rights-json" => self.run_task(
+                alloc,
+                question(words, TextForm::Json),
+                reading,
+                writing,
+            ),
             "answer" => {
                 self.run_task(alloc, question_in(words, TextForm::Plain), reading, writing)
             }
@@ -183,13 +191,18 @@ fn canon(origin: &str, form: ZoneForm) -> Canon<'_> {
 }
 
 /// What words with bars between them ask of a policy.
-fn question(words: &str) -> QuestionWords<'_> {
+fn question(words: &str, form: TextForm) -> Rights<'_> {
     let mut words = words.split('|');
-    QuestionWords {
+    let asked = QuestionWords {
         caller: words.next().unwrap_or(""),
         name: words.next().unwrap_or(""),
         record_type: words.next().unwrap_or(""),
         action: words.next().unwrap_or(""),
+    };
+    Rights {
+        policy: "-",
+        asked,
+        form,
     }
 }
 

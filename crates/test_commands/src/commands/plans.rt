@@ -3,7 +3,7 @@
 use crate::commands::devices::Manner;
 use crate::commands::diffs::push_outcome;
 use crate::commands::trials::{Devices, Trial, tried};
-use cli_core::PlanForm;
+use cli_core::{PlanForm, PlanLines, PlanObject};
 use cli_text::{PlanFault, do_plan};
 use dns_master::{Sink, Source};
 use std::alloc::{AllocError, Global};
@@ -49,9 +49,11 @@ const FAILING: Manner = Manner { most: 64, fails: 1 };
 /// The form that a verb asks for.
 fn form_of(verb: &str) -> PlanForm {
     match verb {
-        "plan-answers" => PlanForm::Answers,
-        "plan-explained" => PlanForm::Explained,
-        _ => PlanForm::Records,
+        "plan-answers" => PlanForm::Lines(PlanLines::Answers),
+        "plan-explained" => PlanForm::Lines(PlanLines::Explained),
+        "plan-json" => PlanForm::Object(PlanObject::Reply),
+        "plan-explained-json" => PlanForm::Object(PlanObject::Explained),
+        _ => PlanForm::Lines(PlanLines::Records),
     }
 }
 
@@ -64,7 +66,7 @@ pub fn push_plan(alloc: Global, row: &Row<'_>, answer: &mut Vec<u8>) -> Result<(
             push_planned(
                 alloc,
                 row,
-                PlanForm::Records,
+                PlanForm::Lines(PlanLines::Records),
                 [FAILING, sound, sound],
                 answer,
             )?;
@@ -72,7 +74,7 @@ pub fn push_plan(alloc: Global, row: &Row<'_>, answer: &mut Vec<u8>) -> Result<(
             push_planned(
                 alloc,
                 row,
-                PlanForm::Records,
+                PlanForm::Lines(PlanLines::Records),
                 [sound, FAILING, sound],
                 answer,
             )
@@ -80,7 +82,7 @@ pub fn push_plan(alloc: Global, row: &Row<'_>, answer: &mut Vec<u8>) -> Result<(
         "plan-write" => push_planned(
             alloc,
             row,
-            PlanForm::Records,
+            PlanForm::Lines(PlanLines::Records),
             [sound, sound, FAILING],
             answer,
         ),

@@ -16,10 +16,10 @@ returns c =
     let makes = c.in_ok-reply.ensures.exact in
     elim c.match-reply-3.branch [
       | in-NoError+in_ok-push_change+in_ok-push_after w ↦
-          subst (λ t. IsReplyText c.args.form asker (zone_update c.args.asked) (string_bytes {Z = Global} t)) (sym w.text-is)
-          (text_made asker zone update reply change c.args.form _ _ makes w.in-NoError.is
+          subst (λ t. IsReplyText c.args.lines asker (zone_update c.args.asked) (string_bytes {Z = Global} t)) (sym w.text-is)
+          (text_made asker zone update reply change c.args.lines _ _ makes w.in-NoError.is
           (w.in_ok-push_change.ensures ∙ ap (λ bs. bs ++ change_lines change) c.in_ok-text.ensures) w.in_ok-push_after.ensures)
       | in_default w ↦
-          subst (λ t. IsReplyText c.args.form asker (zone_update c.args.asked) (string_bytes {Z = Global} t)) (sym w.text-is)
-          (text_refused asker zone update reply change c.args.form _ makes w.in_default.not-NoError c.in_ok-text.ensures)
+          subst (λ t. IsReplyText c.args.lines asker (zone_update c.args.asked) (string_bytes {Z = Global} t)) (sym w.text-is)
+          (text_refused asker zone update reply change c.args.lines _ makes w.in_default.not-NoError c.in_ok-text.ensures)
     ]

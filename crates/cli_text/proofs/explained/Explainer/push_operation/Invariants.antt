@@ -1,15 +1,14 @@
 use Rattle.std.proofs.Common.{◌≡◌, ◌++◌, List, drop}
-use Rattle.std.specs.Prelude.{string_bytes}
 use Rattle.dns_data.specs.declared.record_type.RecordType.{RecordType}
 use Rattle.dns_data.specs.Types.{kept_types}
 use Rattle.zone_core.specs.declared.update.ItemList.TheVariants as lists
 use Rattle.zone_core.specs.Updates.{place_in, acted_name}
 use Rattle.office_core.specs.Footprints.{points_at, operation_action}
-use Rattle.cli_text.specs.Explained.{point_lines}
+use Rattle.cli_text.specs.Explained.{point_texts}
 use Rattle.cli_text.proofs.explained.Explainer.push_operation.Given as goal
 
--- the lines so far, and those of the types that are left
+-- the texts so far, and those of the types that are left
 abbrev pub invariant-loop-record_type : goal.invariant-loop-record_type
 invariant-loop-record_type l =
-    let lines = λ (ts : List RecordType). point_lines l.fn.self.policy.now l.fn.self.caller.now (points_at (place_in lists.Operations l.item) (acted_name l.operation) (operation_action l.origin l.operation) ts) in
-    string_bytes l.text ++ lines (drop l.record_type-index kept_types) ≡ string_bytes l.initial.text ++ lines kept_types
+    let texts = λ (ts : List RecordType). point_texts l.fn.self.form l.fn.self.policy.now l.fn.self.caller.now (points_at (place_in lists.Operations l.item) (acted_name l.operation) (operation_action l.origin l.operation) ts) in
+    l.text.items ++ texts (drop l.record_type-index kept_types) ≡ l.initial.text.items ++ texts kept_types
