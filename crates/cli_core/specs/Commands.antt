@@ -79,7 +79,7 @@ argument_form a = (argument_row a).1
 abbrev pub command_row : Command → Text × List Argument
 command_row command.Apply = (codes "apply", [])
 command_row command.Canon = (codes "canon", argument.Origin ∷ argument.Relative ∷ [])
-command_row command.Diff = (codes "diff", argument.Origin ∷ argument.Guard ∷ argument.GuardSets ∷ argument.Answers ∷ argument.Old ∷ argument.New ∷ [])
+command_row command.Diff = (codes "diff", argument.Origin ∷ argument.Guard ∷ argument.GuardSets ∷ argument.Answers ∷ argument.Json ∷ argument.Old ∷ argument.New ∷ [])
 command_row command.Request = (codes "request", argument.Id ∷ argument.Split ∷ [])
 command_row command.Import = (codes "import", argument.Store ∷ argument.ImportedOrigin ∷ argument.List ∷ argument.Replace ∷ [])
 command_row command.Export = (codes "export", argument.Store ∷ argument.Origin ∷ argument.At ∷ argument.Relative ∷ [])
@@ -95,7 +95,7 @@ command_row command.Plan = (codes "plan", argument.Policy ∷ argument.Caller �
 command_row command.Serve =
     (codes "serve", argument.Store ∷ argument.Policy ∷ argument.Listen ∷ argument.Connections ∷ argument.Patience ∷ argument.Longest ∷ argument.Memory ∷ [])
 command_row command.Check =
-    (codes "check", argument.Subject ∷ argument.CheckedName ∷ argument.CheckedPolicy ∷ argument.Against ∷ argument.Zones ∷ argument.Reader ∷ argument.Isolated ∷ argument.CheckedOrigin ∷ argument.Only ∷ argument.Not ∷ argument.Server ∷ argument.Most ∷ argument.Warn ∷ [])
+    (codes "check", argument.Subject ∷ argument.CheckedName ∷ argument.CheckedPolicy ∷ argument.Against ∷ argument.Zones ∷ argument.Reader ∷ argument.Isolated ∷ argument.CheckedOrigin ∷ argument.Only ∷ argument.Not ∷ argument.Server ∷ argument.Most ∷ argument.Warn ∷ argument.Json ∷ [])
 command_row command.Policy = (codes "policy", argument.Source ∷ argument.SourceFile ∷ argument.Slice ∷ [])
 command_row command.Answer = (codes "answer", argument.Origin ∷ argument.File ∷ argument.AskedName ∷ argument.AskedType ∷ argument.Json ∷ [])
 command_row command.Reverse = (codes "reverse", argument.Origin ∷ argument.File ∷ [])

@@ -6,7 +6,8 @@ use Rattle.cli_core.specs.declared.argument.Argument.TheVariants as argument
 use Rattle.cli_core.specs.declared.commands.Command.{Command}
 use Rattle.cli_core.specs.declared.commands.Command.TheVariants as command
 use Rattle.cli_core.specs.declared.commands.check.Check.{Check}
-use Rattle.cli_core.specs.declared.commands.check.Check.TheVariants as check
+use Rattle.cli_core.specs.declared.commands.check.CheckSubject.{CheckSubject}
+use Rattle.cli_core.specs.declared.commands.check.CheckSubject.TheVariants as check
 use Rattle.cli_core.specs.declared.commands.policy.PolicySource.{PolicySource}
 use Rattle.cli_core.specs.declared.commands.policy.PolicySource.TheVariants.{Groups, Rules}
 use Rattle.cli_core.specs.declared.commands.policy.PolicyText.{PolicyText}
@@ -14,8 +15,8 @@ use Rattle.cli_core.specs.declared.job.Existing.{Existing}
 use Rattle.cli_core.specs.declared.job.Existing.TheVariants.{Kept, Replaced}
 use Rattle.cli_core.specs.declared.job.TextForm.{TextForm}
 use Rattle.cli_core.specs.declared.job.TextForm.TheVariants.{Plain, Json}
-use Rattle.cli_core.specs.declared.job.DiffForm.{DiffForm}
-use Rattle.cli_core.specs.declared.job.DiffForm.TheVariants.{Items, Answers}
+use Rattle.cli_core.specs.declared.job.DiffContent.{DiffContent}
+use Rattle.cli_core.specs.declared.job.DiffContent.TheVariants.{Items, Answers}
 use Rattle.cli_core.specs.declared.job.ItemForm.TheVariants.{Bare, Guarded}
 use Rattle.cli_core.specs.declared.job.PlanForm.{PlanForm}
 use Rattle.cli_core.specs.declared.job.PlanForm.TheVariants.{Lines, Object}
@@ -49,29 +50,29 @@ abbrev pub is_relative : ZoneForm → Bool
 is_relative Whole = false
 is_relative Relative = true
 
-abbrev pub is_guarded : DiffForm → Bool
+abbrev pub is_guarded : DiffContent → Bool
 is_guarded (Items Bare) = false
 is_guarded (Items (Guarded Names)) = true
 is_guarded (Items (Guarded Sets)) = false
 is_guarded Answers = false
 
-abbrev pub is_guarded_by_sets : DiffForm → Bool
+abbrev pub is_guarded_by_sets : DiffContent → Bool
 is_guarded_by_sets (Items Bare) = false
 is_guarded_by_sets (Items (Guarded Names)) = false
 is_guarded_by_sets (Items (Guarded Sets)) = true
 is_guarded_by_sets Answers = false
 
-abbrev pub is_of_answers : DiffForm → Bool
+abbrev pub is_of_answers : DiffContent → Bool
 is_of_answers (Items form) = false
 is_of_answers Answers = true
 
--- the form of three flags, of which only one is given
-abbrev pub form_by : Bool → Bool → Bool → Option DiffForm
-form_by false false false = Some (Items Bare)
-form_by true false false = Some (Items (Guarded Names))
-form_by false true false = Some (Items (Guarded Sets))
-form_by false false true = Some Answers
-form_by _ _ _ = None
+-- what three flags ask for, of which only one is given
+abbrev pub content_by : Bool → Bool → Bool → Option DiffContent
+content_by false false false = Some (Items Bare)
+content_by true false false = Some (Items (Guarded Names))
+content_by false true false = Some (Items (Guarded Sets))
+content_by false false true = Some Answers
+content_by _ _ _ = None
 
 abbrev pub tells_answers : PlanForm → Bool
 tells_answers (Lines plan_lines.Records) = false
@@ -121,38 +122,43 @@ choice_values (choice.Only rule) gs = (argument.Only, given rule.now) ∷ (argum
 choice_values (choice.Not rule) gs = (argument.Only, text None) ∷ (argument.Not, given rule.now) ∷ gs
 
 -- a server, the most records of a set, and whether shared addresses are wanted
-abbrev pub further_values : ZoneRules → List Given
-further_values rules =
-    (argument.Server, text (option_map (λ s. s.now) rules.server)) ∷ (argument.Most, number rules.most) ∷ (argument.Warn, flag (is_wanted rules.advice)) ∷ []
+abbrev pub further_values : ZoneRules → List Given → List Given
+further_values rules gs =
+    (argument.Server, text (option_map (λ s. s.now) rules.server)) ∷ (argument.Most, number rules.most) ∷ (argument.Warn, flag (is_wanted rules.advice)) ∷ gs
 
 abbrev pub subject : Text → Given
 subject word = (argument.Subject, given word)
 
 -- ---- the table of jobs
 
-abbrev pub asks_check : Check → JobOf
-asks_check (check.Policy policy against) = (
+-- what checks something, with the values after those of that
+abbrev pub check_job : CheckSubject → List Given → JobOf
+check_job (check.Policy policy against) gs = (
   command.Check,
   subject (codes "policy") ∷ (argument.CheckedPolicy, given policy.now) ∷ (argument.Against, text (option_map (λ p. p.now) against))
-      ∷ (argument.Zones, text None) ∷ (argument.Reader, text None) ∷ [],
+      ∷ (argument.Zones, text None) ∷ (argument.Reader, text None) ∷ gs,
 )
-asks_check (check.PolicyZones policy zones reader) = (
+check_job (check.PolicyZones policy zones reader) gs = (
   command.Check,
   subject (codes "policy") ∷ (argument.CheckedPolicy, given policy.now) ∷ (argument.Against, text None) ∷ (argument.Zones, given zones.now)
-      ∷ (argument.Reader, text (option_map (λ r. r.now) reader)) ∷ [],
+      ∷ (argument.Reader, text (option_map (λ r. r.now) reader)) ∷ gs,
 )
-asks_check (check.Isolation policy caller) =
-    (command.Check, subject (codes "isolation") ∷ (argument.CheckedPolicy, given policy.now) ∷ (argument.Isolated, given caller.now) ∷ [])
-asks_check (check.Rights policy name) =
-    (command.Check, subject (codes "rights") ∷ (argument.CheckedName, text (option_map (λ n. n.now) name)) ∷ (argument.CheckedPolicy, given policy.now) ∷ [])
-asks_check (check.Expect policy file) =
-    (command.Check, subject (codes "expect") ∷ (argument.CheckedName, text (option_map (λ f. f.now) file)) ∷ (argument.CheckedPolicy, given policy.now) ∷ [])
-asks_check (check.Reach policy caller origin file) = (
+check_job (check.Isolation policy caller) gs =
+    (command.Check, subject (codes "isolation") ∷ (argument.CheckedPolicy, given policy.now) ∷ (argument.Isolated, given caller.now) ∷ gs)
+check_job (check.Rights policy name) gs =
+    (command.Check, subject (codes "rights") ∷ (argument.CheckedName, text (option_map (λ n. n.now) name)) ∷ (argument.CheckedPolicy, given policy.now) ∷ gs)
+check_job (check.Expect policy file) gs =
+    (command.Check, subject (codes "expect") ∷ (argument.CheckedName, text (option_map (λ f. f.now) file)) ∷ (argument.CheckedPolicy, given policy.now) ∷ gs)
+check_job (check.Reach policy caller origin file) gs = (
   command.Check,
   subject (codes "reach") ∷ (argument.CheckedName, text (option_map (λ f. f.now) file)) ∷ (argument.CheckedPolicy, given policy.now)
-      ∷ (argument.Isolated, given caller.now) ∷ (argument.CheckedOrigin, given origin.now) ∷ [],
+      ∷ (argument.Isolated, given caller.now) ∷ (argument.CheckedOrigin, given origin.now) ∷ gs,
 )
-asks_check (check.Zone origin rules) = (command.Check, subject (codes "zone") ∷ (argument.CheckedOrigin, given origin.now) ∷ choice_values rules.choice (further_values rules))
+check_job (check.Zone origin rules) gs =
+    (command.Check, subject (codes "zone") ∷ (argument.CheckedOrigin, given origin.now) ∷ choice_values rules.choice (further_values rules gs))
+
+abbrev pub asks_check : Check → JobOf
+asks_check w = check_job w.subject ((argument.Json, flag (is_json w.form)) ∷ [])
 
 -- the word of that from which a policy is printed
 abbrev pub source_word : PolicySource → Text
@@ -171,8 +177,8 @@ asks_text text_job.Apply = (command.Apply, [])
 asks_text (text_job.Canon w) = (command.Canon, (argument.Origin, given w.origin.now) ∷ (argument.Relative, flag (is_relative w.form)) ∷ [])
 asks_text (text_job.Diff w) = (
   command.Diff,
-  (argument.Origin, given w.origin.now) ∷ (argument.Guard, flag (is_guarded w.form)) ∷ (argument.GuardSets, flag (is_guarded_by_sets w.form))
-      ∷ (argument.Answers, flag (is_of_answers w.form)) ∷ (argument.Old, given w.files.old.now) ∷ (argument.New, given w.files.new.now) ∷ [],
+  (argument.Origin, given w.origin.now) ∷ (argument.Guard, flag (is_guarded w.form.content)) ∷ (argument.GuardSets, flag (is_guarded_by_sets w.form.content))
+      ∷ (argument.Answers, flag (is_of_answers w.form.content)) ∷ (argument.Json, flag (is_json w.form.text)) ∷ (argument.Old, given w.files.old.now) ∷ (argument.New, given w.files.new.now) ∷ [],
 )
 asks_text (text_job.Request w) = (command.Request, request_values w.form w.id.now)
 asks_text (text_job.Rights w) = (

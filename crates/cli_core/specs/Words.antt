@@ -5,7 +5,7 @@ use Rattle.std.specs.List.{list_any}
 use Rattle.clap.specs.Words.{Row, Text, first_of, subcommand_of}
 use Rattle.cli_core.specs.Commands.{argument_name, arguments_of, command_of, office}
 use Rattle.cli_core.specs.Jobs.{JobOf, subject}
-use Rattle.cli_core.specs.Values.{Given, Value, text, number, flag, given, values_in}
+use Rattle.cli_core.specs.Values.{Given, Value, text, number, flag, flag_if, given, values_in}
 use Rattle.cli_core.specs.declared.argument.Argument.{Argument}
 use Rattle.cli_core.specs.declared.argument.Argument.TheVariants as argument
 use Rattle.cli_core.specs.declared.commands.Command.{Command}
@@ -14,12 +14,12 @@ use Rattle.cli_core.specs.declared.commands.Command.TheVariants as command
 -- what `check` reads, by the word of its subject
 abbrev pub subjects : List (Text × List Argument)
 subjects =
-    (codes "policy", argument.CheckedPolicy ∷ argument.Against ∷ argument.Zones ∷ argument.Reader ∷ [])
-    ∷ (codes "isolation", argument.CheckedPolicy ∷ argument.Isolated ∷ [])
-    ∷ (codes "rights", argument.CheckedName ∷ argument.CheckedPolicy ∷ [])
-    ∷ (codes "expect", argument.CheckedName ∷ argument.CheckedPolicy ∷ [])
-    ∷ (codes "reach", argument.CheckedName ∷ argument.CheckedPolicy ∷ argument.Isolated ∷ argument.CheckedOrigin ∷ [])
-    ∷ (codes "zone", argument.CheckedOrigin ∷ argument.Only ∷ argument.Not ∷ argument.Server ∷ argument.Most ∷ argument.Warn ∷ []) ∷ []
+    (codes "policy", argument.CheckedPolicy ∷ argument.Against ∷ argument.Zones ∷ argument.Reader ∷ argument.Json ∷ [])
+    ∷ (codes "isolation", argument.CheckedPolicy ∷ argument.Isolated ∷ argument.Json ∷ [])
+    ∷ (codes "rights", argument.CheckedName ∷ argument.CheckedPolicy ∷ argument.Json ∷ [])
+    ∷ (codes "expect", argument.CheckedName ∷ argument.CheckedPolicy ∷ argument.Json ∷ [])
+    ∷ (codes "reach", argument.CheckedName ∷ argument.CheckedPolicy ∷ argument.Isolated ∷ argument.CheckedOrigin ∷ argument.Json ∷ [])
+    ∷ (codes "zone", argument.CheckedOrigin ∷ argument.Only ∷ argument.Not ∷ argument.Server ∷ argument.Most ∷ argument.Warn ∷ argument.Json ∷ []) ∷ []
 
 -- the arguments that a job of a command reads: those of its row, and of `check` those of its subject
 abbrev pub arguments_read : Command → Option Text → Option (List Argument)
@@ -71,6 +71,10 @@ go_together c gs = true
 
 abbrev pub job_with : Command → List Given → Option JobOf
 job_with c gs = if go_together c gs then Some (c, gs) else None
+
+-- whether JSON is asked for
+abbrev pub json_given : List Row → List Given
+json_given rows = (argument.Json, flag (flag_if (first_of (argument_name argument.Json) rows))) ∷ []
 
 -- the job of `check` with this subject
 abbrev pub check_by : Text → List Row → Option JobOf

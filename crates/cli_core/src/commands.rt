@@ -33,7 +33,7 @@ pub use answer::Answer;
 use apply::Apply;
 pub use blame::Blame;
 pub use canon::Canon;
-pub use check::Check;
+pub use check::{Check, CheckSubject};
 use clap::ArgMatches;
 pub use diff::Diff;
 pub use explain::Explain;

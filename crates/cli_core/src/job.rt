@@ -84,9 +84,18 @@ pub enum ZoneForm {
     Relative,
 }
 
+/// What a diff prints, and as what.
+#[derive(Clone, Copy)]
+pub struct DiffForm {
+    /// What it prints.
+    pub content: DiffContent,
+    /// As what that is printed.
+    pub text: TextForm,
+}
+
 /// What a diff prints.
 #[derive(Clone, Copy)]
-pub enum DiffForm {
+pub enum DiffContent {
     /// The items that lead from the one zone to the other.
     Items(ItemForm),
     /// The questions that a server answers otherwise from the other zone.

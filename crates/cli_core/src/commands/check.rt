@@ -6,18 +6,27 @@ ghost use Rattle.clap.specs.Words.{first_of, found_of, rows_of};
 ghost use Rattle.cli_core.specs.declared.argument.Argument.TheVariants as argument;
 ghost use Rattle.cli_core.specs.Commands.{argument_name};
 ghost use Rattle.cli_core.specs.Values.{flag_if};
-ghost use Rattle.cli_core.specs.Jobs.{asks_check, is_wanted};
-ghost use Rattle.cli_core.specs.Words.{check_by};
+ghost use Rattle.cli_core.specs.Jobs.{check_job, is_wanted};
+ghost use Rattle.cli_core.specs.Words.{check_by, json_given};
 
 use crate::argument::Argument;
 use crate::commands::{CommandWords, Row};
-use crate::job::{Advice, Job, RuleChoice, TextJob, ZoneRules};
-use crate::matched::{flag_at, number_at, text_at, texts_at};
+use crate::job::{Advice, Job, RuleChoice, TextForm, TextJob, ZoneRules};
+use crate::matched::{flag_at, number_at, text_at, text_form_at, texts_at};
 use clap::ArgMatches;
 
-/// The words of `check`, by its subject.
+/// The words of `check`.
 #[derive(Clone, Copy)]
-pub enum Check<'a> {
+pub struct Check<'a> {
+    /// What is checked.
+    pub subject: CheckSubject<'a>,
+    /// As what the findings are printed.
+    pub form: TextForm,
+}
+
+/// What `check` checks.
+#[derive(Clone, Copy)]
+pub enum CheckSubject<'a> {
     /// To find the rules of a policy that never decide, or what it changes.
     Policy {
         /// The path of the policy.
@@ -93,6 +102,7 @@ pub(super) static ROW: Row = Row {
         Argument::Server,
         Argument::Most,
         Argument::Warn,
+        Argument::Json,
     ],
 };
 
@@ -100,17 +110,18 @@ impl<'a> CommandWords<'a> for Check<'a> {
     ghost command = { command.Check };
 
     fn read(matches: &ArgMatches<'a>) -> Option<Job<'a>> {
-        let subject = text_at(matches, Argument::Subject)?;
-        let check = check_in(subject, matches)?;
-        Some(Job::Text(TextJob::Check(check)))
+        let word = text_at(matches, Argument::Subject)?;
+        let subject = subject_in(word, matches)?;
+        let form = text_form_at(matches);
+        Some(Job::Text(TextJob::Check(Check { subject, form })))
     }
 }
 
-/// The job of a subject.
-fn check_in<'a>(subject: &str, matches: &ArgMatches<'a>) -> Option<Check<'a>>
-    ensures { option_map asks_check result ≡ check_by subject.now (rows_of (found_of matches.now)) }
+/// What the word of a subject asks for.
+fn subject_in<'a>(word: &str, matches: &ArgMatches<'a>) -> Option<CheckSubject<'a>>
+    ensures { option_map (λ s. check_job s (json_given (rows_of (found_of matches.now)))) result ≡ check_by word.now (rows_of (found_of matches.now)) }
 {
-    match subject {
+    match word {
         "policy" => policy_in(matches),
         "isolation" => isolation_in(matches),
         "rights" => rights_in(matches),
@@ -121,9 +132,9 @@ fn check_in<'a>(subject: &str, matches: &ArgMatches<'a>) -> Option<Check<'a>>
     }
 }
 
-/// The job of `check policy`, where the policy is not checked both against another and beside zones, and a reader only beside zones.
-fn policy_in<'a>(matches: &ArgMatches<'a>) -> Option<Check<'a>>
-    ensures { option_map asks_check result ≡ check_by (codes "policy") (rows_of (found_of matches.now)) }
+/// The subject of `check policy`, where the policy is not checked both against another and beside zones, and a reader only beside zones.
+fn policy_in<'a>(matches: &ArgMatches<'a>) -> Option<CheckSubject<'a>>
+    ensures { option_map (λ s. check_job s (json_given (rows_of (found_of matches.now)))) result ≡ check_by (codes "policy") (rows_of (found_of matches.now)) }
 {
     let policy = text_at(matches, Argument::CheckedPolicy)?;
     match (
@@ -131,8 +142,8 @@ fn policy_in<'a>(matches: &ArgMatches<'a>) -> Option<Check<'a>>
         text_at(matches, Argument::Zones),
         text_at(matches, Argument::Reader),
     ) {
-        (against, None, None) => Some(Check::Policy { policy, against }),
-        (None, Some(zones), reader) => Some(Check::PolicyZones {
+        (against, None, None) => Some(CheckSubject::Policy { policy, against }),
+        (None, Some(zones), reader) => Some(CheckSubject::PolicyZones {
             policy,
             zones,
             reader,
@@ -141,40 +152,40 @@ fn policy_in<'a>(matches: &ArgMatches<'a>) -> Option<Check<'a>>
     }
 }
 
-/// The job of `check isolation`.
-fn isolation_in<'a>(matches: &ArgMatches<'a>) -> Option<Check<'a>>
-    ensures { option_map asks_check result ≡ check_by (codes "isolation") (rows_of (found_of matches.now)) }
+/// The subject of `check isolation`.
+fn isolation_in<'a>(matches: &ArgMatches<'a>) -> Option<CheckSubject<'a>>
+    ensures { option_map (λ s. check_job s (json_given (rows_of (found_of matches.now)))) result ≡ check_by (codes "isolation") (rows_of (found_of matches.now)) }
 {
     let (policy, caller) = texts_at(matches, Argument::CheckedPolicy, Argument::Isolated)?;
-    Some(Check::Isolation { policy, caller })
+    Some(CheckSubject::Isolation { policy, caller })
 }
 
-/// The job of `check rights`.
-fn rights_in<'a>(matches: &ArgMatches<'a>) -> Option<Check<'a>>
-    ensures { option_map asks_check result ≡ check_by (codes "rights") (rows_of (found_of matches.now)) }
+/// The subject of `check rights`.
+fn rights_in<'a>(matches: &ArgMatches<'a>) -> Option<CheckSubject<'a>>
+    ensures { option_map (λ s. check_job s (json_given (rows_of (found_of matches.now)))) result ≡ check_by (codes "rights") (rows_of (found_of matches.now)) }
 {
     let policy = text_at(matches, Argument::CheckedPolicy)?;
     let name = text_at(matches, Argument::CheckedName);
-    Some(Check::Rights { policy, name })
+    Some(CheckSubject::Rights { policy, name })
 }
 
-/// The job of `check expect`.
-fn expect_in<'a>(matches: &ArgMatches<'a>) -> Option<Check<'a>>
-    ensures { option_map asks_check result ≡ check_by (codes "expect") (rows_of (found_of matches.now)) }
+/// The subject of `check expect`.
+fn expect_in<'a>(matches: &ArgMatches<'a>) -> Option<CheckSubject<'a>>
+    ensures { option_map (λ s. check_job s (json_given (rows_of (found_of matches.now)))) result ≡ check_by (codes "expect") (rows_of (found_of matches.now)) }
 {
     let policy = text_at(matches, Argument::CheckedPolicy)?;
     let file = text_at(matches, Argument::CheckedName);
-    Some(Check::Expect { policy, file })
+    Some(CheckSubject::Expect { policy, file })
 }
 
-/// The job of `check reach`.
-fn reach_in<'a>(matches: &ArgMatches<'a>) -> Option<Check<'a>>
-    ensures { option_map asks_check result ≡ check_by (codes "reach") (rows_of (found_of matches.now)) }
+/// The subject of `check reach`.
+fn reach_in<'a>(matches: &ArgMatches<'a>) -> Option<CheckSubject<'a>>
+    ensures { option_map (λ s. check_job s (json_given (rows_of (found_of matches.now)))) result ≡ check_by (codes "reach") (rows_of (found_of matches.now)) }
 {
     let file = text_at(matches, Argument::CheckedName);
     let (policy, caller) = texts_at(matches, Argument::CheckedPolicy, Argument::Isolated)?;
     let origin = text_at(matches, Argument::CheckedOrigin)?;
-    Some(Check::Reach {
+    Some(CheckSubject::Reach {
         policy,
         caller,
         origin,
@@ -193,9 +204,9 @@ fn advice_at(matches: &ArgMatches<'_>) -> Advice
     }
 }
 
-/// The job of `check zone`, where not both one rule only and all but one are asked for.
-fn zone_in<'a>(matches: &ArgMatches<'a>) -> Option<Check<'a>>
-    ensures { option_map asks_check result ≡ check_by (codes "zone") (rows_of (found_of matches.now)) }
+/// The subject of `check zone`, where not both one rule only and all but one are asked for.
+fn zone_in<'a>(matches: &ArgMatches<'a>) -> Option<CheckSubject<'a>>
+    ensures { option_map (λ s. check_job s (json_given (rows_of (found_of matches.now)))) result ≡ check_by (codes "zone") (rows_of (found_of matches.now)) }
 {
     let origin = text_at(matches, Argument::CheckedOrigin)?;
     let server = text_at(matches, Argument::Server);
@@ -216,5 +227,5 @@ fn zone_in<'a>(matches: &ArgMatches<'a>) -> Option<Check<'a>>
         most,
         advice,
     };
-    Some(Check::Zone { origin, rules })
+    Some(CheckSubject::Zone { origin, rules })
 }

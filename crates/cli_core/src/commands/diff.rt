@@ -3,15 +3,15 @@
 ghost use Rattle.std.specs.Prelude.{◌≡◌};
 ghost use Rattle.clap.specs.Words.{first_of, found_of, rows_of};
 ghost use Rattle.cli_core.specs.Commands.{argument_name};
-ghost use Rattle.cli_core.specs.Jobs.{form_by};
+ghost use Rattle.cli_core.specs.Jobs.{content_by};
 ghost use Rattle.cli_core.specs.Values.{flag_if};
 ghost use Rattle.cli_core.specs.declared.argument.Argument.TheVariants as argument;
 ghost use Rattle.cli_core.specs.declared.commands.Command.TheVariants as command;
 
 use crate::argument::Argument;
 use crate::commands::{CommandWords, Row};
-use crate::job::{DiffForm, GuardScope, ItemForm, Job, TextJob, ZoneFiles};
-use crate::matched::{flag_at, text_at, texts_at};
+use crate::job::{DiffContent, DiffForm, GuardScope, ItemForm, Job, TextJob, ZoneFiles};
+use crate::matched::{flag_at, text_at, text_form_at, texts_at};
 use clap::ArgMatches;
 
 /// The words of `diff`.
@@ -34,14 +34,15 @@ pub(super) static ROW: Row = Row {
         Argument::Guard,
         Argument::GuardSets,
         Argument::Answers,
+        Argument::Json,
         Argument::Old,
         Argument::New,
     ],
 };
 
 /// What is printed, where no two of prerequisites by names, prerequisites by sets, and answers are asked for.
-fn form_at(matches: &ArgMatches<'_>) -> Option<DiffForm>
-    ensures { result ≡ form_by (flag_if (first_of (argument_name argument.Guard) (rows_of (found_of matches.now))))
+fn content_at(matches: &ArgMatches<'_>) -> Option<DiffContent>
+    ensures { result ≡ content_by (flag_if (first_of (argument_name argument.Guard) (rows_of (found_of matches.now))))
         (flag_if (first_of (argument_name argument.GuardSets) (rows_of (found_of matches.now))))
         (flag_if (first_of (argument_name argument.Answers) (rows_of (found_of matches.now)))) }
 {
@@ -50,10 +51,10 @@ fn form_at(matches: &ArgMatches<'_>) -> Option<DiffForm>
         flag_at(matches, Argument::GuardSets),
         flag_at(matches, Argument::Answers),
     ) {
-        (false, false, false) => Some(DiffForm::Items(ItemForm::Bare)),
-        (true, false, false) => Some(DiffForm::Items(ItemForm::Guarded(GuardScope::Names))),
-        (false, true, false) => Some(DiffForm::Items(ItemForm::Guarded(GuardScope::Sets))),
-        (false, false, true) => Some(DiffForm::Answers),
+        (false, false, false) => Some(DiffContent::Items(ItemForm::Bare)),
+        (true, false, false) => Some(DiffContent::Items(ItemForm::Guarded(GuardScope::Names))),
+        (false, true, false) => Some(DiffContent::Items(ItemForm::Guarded(GuardScope::Sets))),
+        (false, false, true) => Some(DiffContent::Answers),
         _ => None,
     }
 }
@@ -68,11 +69,12 @@ impl<'a> CommandWords<'a> for Diff<'a> {
             return None;
         }
         let files = ZoneFiles { old, new };
-        let form = form_at(matches)?;
+        let content = content_at(matches)?;
+        let text = text_form_at(matches);
         Some(Job::Text(TextJob::Diff(Diff {
             origin,
             files,
-            form,
+            form: DiffForm { content, text },
         })))
     }
 }
