@@ -3,7 +3,11 @@ use Rattle.std.specs.Prelude.{◌≡◌, ◌≢◌, ◌<◌, ◌⊎◌, ⊤, ℕ
 use Rattle.std.specs.Borrow.{Bor}
 use Rattle.dns_master.specs.declared.device.DeviceFailed.{DeviceFailed}
 use Rattle.cli_core.specs.declared.commands.check.Check.{Check}
-use Rattle.cli_core.specs.declared.commands.check.Check.TheVariants as check
+use Rattle.cli_core.specs.declared.commands.check.CheckSubject.{CheckSubject}
+use Rattle.cli_core.specs.declared.commands.check.CheckSubject.TheVariants as check
+use Rattle.cli_core.specs.declared.job.TextForm.{TextForm}
+use Rattle.cli_core.specs.declared.job.TextForm.TheVariants.{Plain}
+use Rattle.cli_text.specs.declared.check.AskedCheck.{AskedCheck}
 use Rattle.cli_core.specs.declared.job.Job.{Job}
 use Rattle.cli_core.specs.declared.job.Job.TheVariants as job
 use Rattle.cli_core.specs.declared.job.TextJob.{TextJob}
@@ -121,54 +125,58 @@ EndsTaskOf a i path answer o status =
     ((path ≢ codes "-") × IsUnread i × EndsTask (a.file path) ⊤ (a.unreadable path) answer o status)
     ⊎ ((path ≡ codes "-") × EndsTask i.left (i.after ≡ i.before) (i.before < i.after) answer o status)
 
+-- a check, as what its findings are printed
+abbrev pub asked : Subject → TextForm → AskedCheck
+asked subject form = record { subject = subject; form = form }
+
 -- the same of a check: at 0 the policy was read, and nothing was found in it
-abbrev pub EndsCheck : Subject → Option (List ℕ) → Type 0 → Type 0 → Writing → ℕ → Type 0
-EndsCheck subject left fine failed o status = (outcome : Result Findings JobFault)
-    × Checked subject left o.old o.new outcome fine failed o.before o.after × (status ≡ check_status_of outcome)
+abbrev pub EndsCheck : AskedCheck → Option (List ℕ) → Type 0 → Type 0 → Writing → ℕ → Type 0
+EndsCheck wanted left fine failed o status = (outcome : Result Findings JobFault)
+    × Checked wanted left o.old o.new outcome fine failed o.before o.after × (status ≡ check_status_of outcome)
 
 -- the same of the input that a path names: standard input, if it is `-`, or a file
-abbrev pub EndsCheckOf : {H : Type 0} → Around H → Reading → Subject → List ℕ → Writing → ℕ → Type 0
-EndsCheckOf a i subject path o status =
-    ((path ≢ codes "-") × IsUnread i × EndsCheck subject (a.file path) ⊤ (a.unreadable path) o status)
-    ⊎ ((path ≡ codes "-") × EndsCheck subject i.left (i.after ≡ i.before) (i.before < i.after) o status)
+abbrev pub EndsCheckOf : {H : Type 0} → Around H → Reading → AskedCheck → List ℕ → Writing → ℕ → Type 0
+EndsCheckOf a i wanted path o status =
+    ((path ≢ codes "-") × IsUnread i × EndsCheck wanted (a.file path) ⊤ (a.unreadable path) o status)
+    ⊎ ((path ≡ codes "-") × EndsCheck wanted i.left (i.after ≡ i.before) (i.before < i.after) o status)
 
 -- The policy of the first path is read, and the other checked against it. At 0 both were read, and the other changes nothing.
-abbrev pub EndsChanges : {H : Type 0} → Around H → List ℕ → List ℕ → Writing → ℕ → Type 0
-EndsChanges a against policy o status = (outcome : Result Findings ChangesFault)
-    × AreChangesChecked (named a against) (named a policy) o.old o.new outcome o.before o.after × (status ≡ check_status_of outcome)
+abbrev pub EndsChanges : {H : Type 0} → Around H → TextForm → List ℕ → List ℕ → Writing → ℕ → Type 0
+EndsChanges a form against policy o status = (outcome : Result Findings ChangesFault)
+    × AreChangesChecked form (named a against) (named a policy) o.old o.new outcome o.before o.after × (status ≡ check_status_of outcome)
 
 -- The policy of the path is read, and then what is expected of it. At 0 both were read, and all is as expected.
-abbrev pub EndsExpectedBy : {H : Type 0} → Around H → List ℕ → InputOf → Writing → ℕ → Type 0
-EndsExpectedBy a policy expected o status = (outcome : Result Findings ExpectFault)
-    × AreExpected (named a policy) expected o.old o.new outcome o.before o.after × (status ≡ check_status_of outcome)
+abbrev pub EndsExpectedBy : {H : Type 0} → Around H → TextForm → List ℕ → InputOf → Writing → ℕ → Type 0
+EndsExpectedBy a form policy expected o status = (outcome : Result Findings ExpectFault)
+    × AreExpected form (named a policy) expected o.old o.new outcome o.before o.after × (status ≡ check_status_of outcome)
 
 -- that is the input that a path names: standard input, if it is `-` or none is given, or a file
-abbrev pub EndsExpected : {H : Type 0} → Around H → Reading → List ℕ → Option (List ℕ) → Writing → ℕ → Type 0
-EndsExpected a i policy path o status =
-    ((unwrap_or path (codes "-") ≢ codes "-") × IsUnread i × EndsExpectedBy a policy (named a (unwrap_or path (codes "-"))) o status)
-    ⊎ ((unwrap_or path (codes "-") ≡ codes "-") × EndsExpectedBy a policy (standard i) o status)
+abbrev pub EndsExpected : {H : Type 0} → Around H → Reading → TextForm → List ℕ → Option (List ℕ) → Writing → ℕ → Type 0
+EndsExpected a i form policy path o status =
+    ((unwrap_or path (codes "-") ≢ codes "-") × IsUnread i × EndsExpectedBy a form policy (named a (unwrap_or path (codes "-"))) o status)
+    ⊎ ((unwrap_or path (codes "-") ≡ codes "-") × EndsExpectedBy a form policy (standard i) o status)
 
 -- The policy of the path is read, and then the list of zones. At 0 both were read, and the policy leaves out none of them.
-abbrev pub EndsZonesBy : {H : Type 0} → Around H → List ℕ → Option (List ℕ) → InputOf → Writing → ℕ → Type 0
-EndsZonesBy a policy reader zones o status = (outcome : Result Findings PolicyZonesFault)
-    × AreZonesChecked reader (named a policy) zones o.old o.new outcome o.before o.after × (status ≡ check_status_of outcome)
+abbrev pub EndsZonesBy : {H : Type 0} → Around H → TextForm → List ℕ → Option (List ℕ) → InputOf → Writing → ℕ → Type 0
+EndsZonesBy a form policy reader zones o status = (outcome : Result Findings PolicyZonesFault)
+    × AreZonesChecked reader form (named a policy) zones o.old o.new outcome o.before o.after × (status ≡ check_status_of outcome)
 
 -- that is the input that a path names: standard input, if it is `-`, or a file
-abbrev pub EndsZones : {H : Type 0} → Around H → Reading → List ℕ → Option (List ℕ) → List ℕ → Writing → ℕ → Type 0
-EndsZones a i policy reader path o status =
-    ((path ≢ codes "-") × IsUnread i × EndsZonesBy a policy reader (named a path) o status)
-    ⊎ ((path ≡ codes "-") × EndsZonesBy a policy reader (standard i) o status)
+abbrev pub EndsZones : {H : Type 0} → Around H → Reading → TextForm → List ℕ → Option (List ℕ) → List ℕ → Writing → ℕ → Type 0
+EndsZones a i form policy reader path o status =
+    ((path ≢ codes "-") × IsUnread i × EndsZonesBy a form policy reader (named a path) o status)
+    ⊎ ((path ≡ codes "-") × EndsZonesBy a form policy reader (standard i) o status)
 
 -- The policy of the path is read, and then the zone of the origin. At 0 both were read, and the caller can change no answer.
-abbrev pub EndsReachBy : {H : Type 0} → Around H → List ℕ → List ℕ → Bor (List ℕ) → InputOf → Writing → ℕ → Type 0
-EndsReachBy a policy caller origin zone o status = (outcome : Result Findings ReachFault)
-    × IsReachChecked caller origin (named a policy) zone o.old o.new outcome o.before o.after × (status ≡ check_status_of outcome)
+abbrev pub EndsReachBy : {H : Type 0} → Around H → TextForm → List ℕ → List ℕ → Bor (List ℕ) → InputOf → Writing → ℕ → Type 0
+EndsReachBy a form policy caller origin zone o status = (outcome : Result Findings ReachFault)
+    × IsReachChecked caller origin form (named a policy) zone o.old o.new outcome o.before o.after × (status ≡ check_status_of outcome)
 
 -- that is the input that a path names: standard input, if it is `-` or none is given, or a file
-abbrev pub EndsReach : {H : Type 0} → Around H → Reading → List ℕ → List ℕ → Bor (List ℕ) → Option (List ℕ) → Writing → ℕ → Type 0
-EndsReach a i policy caller origin path o status =
-    ((unwrap_or path (codes "-") ≢ codes "-") × IsUnread i × EndsReachBy a policy caller origin (named a (unwrap_or path (codes "-"))) o status)
-    ⊎ ((unwrap_or path (codes "-") ≡ codes "-") × EndsReachBy a policy caller origin (standard i) o status)
+abbrev pub EndsReach : {H : Type 0} → Around H → Reading → TextForm → List ℕ → List ℕ → Bor (List ℕ) → Option (List ℕ) → Writing → ℕ → Type 0
+EndsReach a i form policy caller origin path o status =
+    ((unwrap_or path (codes "-") ≢ codes "-") × IsUnread i × EndsReachBy a form policy caller origin (named a (unwrap_or path (codes "-"))) o status)
+    ⊎ ((unwrap_or path (codes "-") ≡ codes "-") × EndsReachBy a form policy caller origin (standard i) o status)
 
 -- What a diff prints of the zones of two files: a path that is `-` is standard input, of which nothing is left for the second file where the
 -- first is it too. Where neither is, standard input is not read.
@@ -202,15 +210,20 @@ AnswerEnds a i w o status =
     ⊎ ((w.name.now ≡ codes "-") × Ends (λ outcome. IsInquiredOf a i w o outcome) status)
 
 -- A check reads the file of its policy, and of another against which it is checked, or standard input where that is a zone.
+abbrev pub SubjectEnds : {H : Type 0} → Around H → Reading → Writing → TextForm → CheckSubject → ℕ → Type 0
+SubjectEnds a i o form (check.Policy policy None) status = IsUnread i × EndsCheck (asked Rules form) (a.file policy.now) ⊤ (a.unreadable policy.now) o status
+SubjectEnds a i o form (check.Policy policy (Some against)) status = IsUnread i × EndsChanges a form against.now policy.now o status
+SubjectEnds a i o form (check.Expect policy file) status = EndsExpected a i form policy.now (option_map (λ f. f.now) file) o status
+SubjectEnds a i o form (check.PolicyZones policy zones reader) status = EndsZones a i form policy.now (option_map (λ r. r.now) reader) zones.now o status
+SubjectEnds a i o form (check.Isolation policy caller) status =
+    IsUnread i × EndsCheck (asked (Isolation caller) form) (a.file policy.now) ⊤ (a.unreadable policy.now) o status
+SubjectEnds a i o form (check.Rights policy name) status =
+    IsUnread i × EndsCheck (asked (Rights name) form) (a.file policy.now) ⊤ (a.unreadable policy.now) o status
+SubjectEnds a i o form (check.Reach policy caller origin file) status = EndsReach a i form policy.now caller.now origin (option_map (λ f. f.now) file) o status
+SubjectEnds a i o form (check.Zone origin rules) status = EndsCheck (asked (Zone origin rules) form) i.left (i.after ≡ i.before) (i.before < i.after) o status
+
 abbrev pub CheckEnds : {H : Type 0} → Around H → Reading → Writing → Check → ℕ → Type 0
-CheckEnds a i o (check.Policy policy None) status = IsUnread i × EndsCheck Rules (a.file policy.now) ⊤ (a.unreadable policy.now) o status
-CheckEnds a i o (check.Policy policy (Some against)) status = IsUnread i × EndsChanges a against.now policy.now o status
-CheckEnds a i o (check.Expect policy file) status = EndsExpected a i policy.now (option_map (λ f. f.now) file) o status
-CheckEnds a i o (check.PolicyZones policy zones reader) status = EndsZones a i policy.now (option_map (λ r. r.now) reader) zones.now o status
-CheckEnds a i o (check.Isolation policy caller) status = IsUnread i × EndsCheck (Isolation caller) (a.file policy.now) ⊤ (a.unreadable policy.now) o status
-CheckEnds a i o (check.Rights policy name) status = IsUnread i × EndsCheck (Rights name) (a.file policy.now) ⊤ (a.unreadable policy.now) o status
-CheckEnds a i o (check.Reach policy caller origin file) status = EndsReach a i policy.now caller.now origin (option_map (λ f. f.now) file) o status
-CheckEnds a i o (check.Zone origin rules) status = EndsCheck (Zone origin rules) i.left (i.after ≡ i.before) (i.before < i.after) o status
+CheckEnds a i o words status = SubjectEnds a i o words.form words.subject status
 
 -- A job that needs no store reads its own input and answers to its own words, and the status is 0 exactly where it went through, and a
 -- check found nothing. What is around, standard input, standard output, the job, and the status. A job whose inputs are files, or that has
@@ -226,9 +239,9 @@ TextJobEnds a i o (text_job.Plan w) status =
     Ends (λ outcome. IsPlanned w.form w.caller.now (named a w.policy.now) (standard i) o.old o.new outcome o.before o.after) status
 TextJobEnds a i o (text_job.Check w) status = CheckEnds a i o w status
 TextJobEnds a i o (text_job.Policy w) status =
-    EndsCheckOf a i (Printed w.source w.zones) (unwrap_or (option_map (λ f. f.now) w.file) (codes "-")) o status
+    EndsCheckOf a i (asked (Printed w.source w.zones) Plain) (unwrap_or (option_map (λ f. f.now) w.file) (codes "-")) o status
 TextJobEnds a i o (text_job.Answer w) status = AnswerEnds a i w o status
-TextJobEnds a i o (text_job.Reverse w) status = EndsCheckOf a i (Reverse w.origin) w.file.now o status
+TextJobEnds a i o (text_job.Reverse w) status = EndsCheckOf a i (asked (Reverse w.origin) Plain) w.file.now o status
 TextJobEnds a i o (text_job.Explain w) status =
     IsUnread i × EndsTask ended.left ended.fine ended.failed (explain_text (option_map (λ n. n.now) w.number) w.form) o status
 

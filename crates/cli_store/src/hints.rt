@@ -3,7 +3,7 @@
 use crate::beginning::Beginning;
 use crate::kept_files::KeptFile;
 use crate::surroundings::Surroundings;
-use cli_core::{Check, Job, StoreJob, TextJob, read_words};
+use cli_core::{Check, CheckSubject, Job, StoreJob, TextJob, read_words};
 use dns_data::{DataFault, RecordType};
 use dns_master::{MasterFault, Token, read_file, tokens};
 use dns_names::Name;
@@ -124,7 +124,10 @@ fn text_origin(job: TextJob<'_>) -> Option<&str> {
     match job {
         TextJob::Canon(words) => Some(words.origin),
         TextJob::Diff(words) => Some(words.origin),
-        TextJob::Check(Check::Zone { origin, .. } | Check::Reach { origin, .. }) => Some(origin),
+        TextJob::Check(Check {
+            subject: CheckSubject::Zone { origin, .. } | CheckSubject::Reach { origin, .. },
+            ..
+        }) => Some(origin),
         _ => None,
     }
 }

@@ -6,7 +6,7 @@ ghost use Rattle.sqlite.specs.Held.{state};
 ghost use Rattle.cli_text.specs.Plan.{IsPlanned};
 ghost use Rattle.cli_store.specs.Stores.{stores_of};
 ghost use Rattle.cli_store.specs.ImportList.{ListImported};
-ghost use Rattle.cli_store.specs.Program.{Ends, OfInput, EndsTask, EndsCheck, EndsChanges, EndsCheckOf, EndsExpectedBy, EndsExpected, EndsZonesBy, EndsZones, EndsReachBy, EndsReach, EndsTaskOf, IsInquiredOf, AnswerEnds, DiffersBy, named, standard, requested, CheckEnds, TextJobEnds, StoreJobEnds, JobEnds, EndsFault, WordsEnd, IsToldWhole, status_of, check_status_of};
+ghost use Rattle.cli_store.specs.Program.{Ends, OfInput, EndsTask, EndsCheck, EndsChanges, EndsCheckOf, EndsExpectedBy, EndsExpected, EndsZonesBy, EndsZones, EndsReachBy, EndsReach, EndsTaskOf, IsInquiredOf, AnswerEnds, DiffersBy, named, standard, requested, asked, CheckEnds, TextJobEnds, StoreJobEnds, JobEnds, EndsFault, WordsEnd, IsToldWhole, status_of, check_status_of};
 
 use crate::files::StoreFiles;
 use crate::import_list::import_all;
@@ -21,11 +21,11 @@ use crate::zone_blame::blame;
 use crate::zone_undo::undo;
 use crate::zones::import;
 use cli_core::{
-    Answer, Check, DiffForm, ImportList, Input, Job, JobFault, NO_MEMORY_LINE, PlanForm,
-    RequestForm, StoreJob, TextJob, WordsFault, ZoneFiles, read_words, write_text,
+    Answer, Check, CheckSubject, DiffForm, ImportList, Input, Job, JobFault, NO_MEMORY_LINE,
+    PlanForm, RequestForm, StoreJob, TextForm, TextJob, WordsFault, ZoneFiles, read_words, write_text,
 };
 use cli_text::{
-    AnswerFault, Apply, DiffFault, Findings, Request, Split, Subject, Task, do_answers, do_changes,
+    AnswerFault, Apply, AskedCheck, DiffFault, Findings, Request, Split, Subject, Task, do_answers, do_changes,
     do_check, do_diff, do_expect, do_plan, do_policy_zones, do_reach,
 };
 use dns_master::{Sink, Source};
@@ -87,40 +87,41 @@ fn check_status<M: Surroundings, F: Display + Drop>(
 /// Checks what an input is, with a writer.
 fn check<M: Surroundings, I: Input, W: Sink>(
     around: &M,
-    subject: Subject<'_>,
+    wanted: AskedCheck<'_>,
     input: &mut I,
     output: &mut W,
 ) -> ExitCode
-    ensures { EndsCheck subject.entry (I.left input.old) (I.fine input.old input.new) (I.failed input.old input.new)
+    ensures { EndsCheck wanted.entry (I.left input.old) (I.fine input.old input.new) (I.failed input.old input.new)
         (record { old = W.contents output.old; new = W.contents output.new; before = W.failures output.old; after = W.failures output.new })
         (exit_status result) }
 {
-    check_status(around, do_check(around.alloc(), subject, input, output))
+    check_status(around, do_check(around.alloc(), wanted, input, output))
 }
 
 /// Checks the file of a path.
 fn check_file<M: Surroundings, W: Sink>(
     around: &M,
-    subject: Subject<'_>,
+    wanted: AskedCheck<'_>,
     path: &str,
     output: &mut W,
 ) -> ExitCode
-    ensures { EndsCheck subject.entry ((M.around around.now).file path.now) ⊤ ((M.around around.now).unreadable path.now)
+    ensures { EndsCheck wanted.entry ((M.around around.now).file path.now) ⊤ ((M.around around.now).unreadable path.now)
         (record { old = W.contents output.old; new = W.contents output.new; before = W.failures output.old; after = W.failures output.new })
         (exit_status result) }
 {
     let mut file = NamedFile { around, path };
-    check(around, subject, &mut file, output)
+    check(around, wanted, &mut file, output)
 }
 
 /// Writes what the policy of a path changes against that of another.
 fn changes<M: Surroundings, W: Sink>(
     around: &M,
+    form: TextForm,
     against: &str,
     policy: &str,
     output: &mut W,
 ) -> ExitCode
-    ensures { EndsChanges (M.around around.now) against.now policy.now
+    ensures { EndsChanges (M.around around.now) form against.now policy.now
         (record { old = W.contents output.old; new = W.contents output.new; before = W.failures output.old; after = W.failures output.new })
         (exit_status result) }
 {
@@ -134,88 +135,95 @@ fn changes<M: Surroundings, W: Sink>(
     };
     check_status(
         around,
-        do_changes(around.alloc(), &mut old, &mut new, output),
+        do_changes(around.alloc(), form, &mut old, &mut new, output),
     )
 }
 
 /// Writes what is expected of the policy of a path and is not so, by an input.
 fn expect_of<M: Surroundings, N: Input, W: Sink>(
     around: &M,
-    policy: &str,
+    what: (&str, TextForm),
     expected: &mut N,
     output: &mut W,
 ) -> ExitCode
-    ensures { EndsExpectedBy (M.around around.now) policy.now
+    ensures { EndsExpectedBy (M.around around.now) what.entry.1 what.entry.0.now
         (record { left = N.left expected.old; fine = N.fine expected.old expected.new; failed = N.failed expected.old expected.new })
         (record { old = W.contents output.old; new = W.contents output.new; before = W.failures output.old; after = W.failures output.new })
         (exit_status result) }
 {
+    let (policy, form) = what;
     let mut policy = NamedFile {
         around,
         path: policy,
     };
     check_status(
         around,
-        do_expect(around.alloc(), &mut policy, expected, output),
+        do_expect(around.alloc(), form, &mut policy, expected, output),
     )
 }
 
 /// The same by the input that a path names: standard input, if it is `-` or none is given, or a file.
 fn expect<M: Surroundings, R: Source, W: Sink>(
     around: &M,
-    policy: &str,
+    what: (&str, TextForm),
     file: Option<&str>,
     input: &mut R,
     output: &mut W,
 ) -> ExitCode
     ensures { EndsExpected (M.around around.now)
-        (record { left = R.remaining input.old; rest = R.remaining input.new; before = R.failures input.old; after = R.failures input.new }) policy.now
-        (option_map (λ f. f.now) file.entry)
+        (record { left = R.remaining input.old; rest = R.remaining input.new; before = R.failures input.old; after = R.failures input.new }) what.entry.1
+        what.entry.0.now (option_map (λ f. f.now) file.entry)
         (record { old = W.contents output.old; new = W.contents output.new; before = W.failures output.old; after = W.failures output.new })
         (exit_status result) }
 {
     let path = file.unwrap_or("-");
     if is_standard(path) {
-        return expect_of(around, policy, input, output);
+        return expect_of(around, what, input, output);
     }
     let mut file = NamedFile { around, path };
-    expect_of(around, policy, &mut file, output)
+    expect_of(around, what, &mut file, output)
 }
 
 /// Writes what the policy of a path leaves out of the zones of a list, by an input.
 fn policy_zones_of<M: Surroundings, N: Input, W: Sink>(
     around: &M,
-    what: (&str, Option<&str>),
+    what: (&str, Option<&str>, TextForm),
     zones: &mut N,
     output: &mut W,
 ) -> ExitCode
-    ensures { EndsZonesBy (M.around around.now) what.entry.0.now (option_map (λ r. r.now) what.entry.1)
+    ensures { EndsZonesBy (M.around around.now) what.entry.2 what.entry.0.now (option_map (λ r. r.now) what.entry.1)
         (record { left = N.left zones.old; fine = N.fine zones.old zones.new; failed = N.failed zones.old zones.new })
         (record { old = W.contents output.old; new = W.contents output.new; before = W.failures output.old; after = W.failures output.new })
         (exit_status result) }
 {
-    let (policy, reader) = what;
+    let (policy, reader, form) = what;
     let mut policy = NamedFile {
         around,
         path: policy,
     };
     check_status(
         around,
-        do_policy_zones(around.alloc(), reader, &mut policy, zones, output),
+        do_policy_zones(
+            around.alloc(),
+            (reader, form),
+            &mut policy,
+            zones,
+            output,
+        ),
     )
 }
 
 /// The same by the list of a path: standard input, if it is `-`, or a file.
 fn policy_zones<M: Surroundings, R: Source, W: Sink>(
     around: &M,
-    what: (&str, Option<&str>),
+    what: (&str, Option<&str>, TextForm),
     zones: &str,
     input: &mut R,
     output: &mut W,
 ) -> ExitCode
     ensures { EndsZones (M.around around.now)
         (record { left = R.remaining input.old; rest = R.remaining input.new; before = R.failures input.old; after = R.failures input.new })
-        what.entry.0.now (option_map (λ r. r.now) what.entry.1) zones.now
+        what.entry.2 what.entry.0.now (option_map (λ r. r.now) what.entry.1) zones.now
         (record { old = W.contents output.old; new = W.contents output.new; before = W.failures output.old; after = W.failures output.new })
         (exit_status result) }
 {
@@ -232,37 +240,43 @@ fn policy_zones<M: Surroundings, R: Source, W: Sink>(
 /// Writes which answers of a zone the policy of a path lets a caller change, by an input.
 fn reach_of<M: Surroundings, N: Input, W: Sink>(
     around: &M,
-    what: (&str, &str, &str),
+    what: (&str, &str, &str, TextForm),
     zone: &mut N,
     output: &mut W,
 ) -> ExitCode
-    ensures { EndsReachBy (M.around around.now) what.entry.0.now what.entry.1.now what.entry.2
+    ensures { EndsReachBy (M.around around.now) what.entry.3 what.entry.0.now what.entry.1.now what.entry.2
         (record { left = N.left zone.old; fine = N.fine zone.old zone.new; failed = N.failed zone.old zone.new })
         (record { old = W.contents output.old; new = W.contents output.new; before = W.failures output.old; after = W.failures output.new })
         (exit_status result) }
 {
-    let (policy, caller, origin) = what;
+    let (policy, caller, origin, form) = what;
     let mut policy = NamedFile {
         around,
         path: policy,
     };
     check_status(
         around,
-        do_reach(around.alloc(), (caller, origin), &mut policy, zone, output),
+        do_reach(
+            around.alloc(),
+            (caller, origin, form),
+            &mut policy,
+            zone,
+            output,
+        ),
     )
 }
 
 /// The same by the zone that a path names: standard input, if it is `-` or none is given, or a file.
 fn reach<M: Surroundings, R: Source, W: Sink>(
     around: &M,
-    what: (&str, &str, &str),
+    what: (&str, &str, &str, TextForm),
     file: Option<&str>,
     input: &mut R,
     output: &mut W,
 ) -> ExitCode
     ensures { EndsReach (M.around around.now)
         (record { left = R.remaining input.old; rest = R.remaining input.new; before = R.failures input.old; after = R.failures input.new })
-        what.entry.0.now what.entry.1.now what.entry.2 (option_map (λ f. f.now) file.entry)
+        what.entry.3 what.entry.0.now what.entry.1.now what.entry.2 (option_map (λ f. f.now) file.entry)
         (record { old = W.contents output.old; new = W.contents output.new; before = W.failures output.old; after = W.failures output.new })
         (exit_status result) }
 {
@@ -272,6 +286,13 @@ fn reach<M: Surroundings, R: Source, W: Sink>(
     }
     let mut file = NamedFile { around, path };
     reach_of(around, what, &mut file, output)
+}
+
+/// A check, as what its findings are printed.
+const fn asked(subject: Subject<'_>, form: TextForm) -> AskedCheck<'_>
+    ensures { result ≡ asked subject.entry form }
+{
+    AskedCheck { subject, form }
 }
 
 /// Checks what the words of `check` name.
@@ -286,33 +307,38 @@ fn check_job<M: Surroundings, R: Source, W: Sink>(
         (record { old = W.contents output.old; new = W.contents output.new; before = W.failures output.old; after = W.failures output.new }) words.entry
         (exit_status result) }
 {
-    match words {
-        Check::Policy {
+    let form = words.form;
+    match words.subject {
+        CheckSubject::Policy {
             policy,
             against: None,
-        } => check_file(around, Subject::Rules, policy, output),
-        Check::Policy {
+        } => check_file(around, asked(Subject::Rules, form), policy, output),
+        CheckSubject::Policy {
             policy,
             against: Some(against),
-        } => changes(around, against, policy, output),
-        Check::PolicyZones {
+        } => changes(around, form, against, policy, output),
+        CheckSubject::PolicyZones {
             policy,
             zones,
             reader,
-        } => policy_zones(around, (policy, reader), zones, input, output),
-        Check::Expect { policy, file } => expect(around, policy, file, input, output),
-        Check::Reach {
+        } => policy_zones(around, (policy, reader, form), zones, input, output),
+        CheckSubject::Expect { policy, file } => {
+            expect(around, (policy, form), file, input, output)
+        }
+        CheckSubject::Reach {
             policy,
             caller,
             origin,
             file,
-        } => reach(around, (policy, caller, origin), file, input, output),
-        Check::Isolation { policy, caller } => {
-            check_file(around, Subject::Isolation(caller), policy, output)
+        } => reach(around, (policy, caller, origin, form), file, input, output),
+        CheckSubject::Isolation { policy, caller } => {
+            check_file(around, asked(Subject::Isolation(caller), form), policy, output)
         }
-        Check::Rights { policy, name } => check_file(around, Subject::Rights(name), policy, output),
-        Check::Zone { origin, rules } => {
-            check(around, Subject::Zone(origin, rules), input, output)
+        CheckSubject::Rights { policy, name } => {
+            check_file(around, asked(Subject::Rights(name), form), policy, output)
+        }
+        CheckSubject::Zone { origin, rules } => {
+            check(around, asked(Subject::Zone(origin, rules), form), input, output)
         }
     }
 }
@@ -397,20 +423,20 @@ fn do_task_of<M: Surroundings, T: Task, R: Source, W: Sink>(
 /// Checks the input that a path names: standard input, if it is `-`, or a file.
 fn check_of<M: Surroundings, R: Source, W: Sink>(
     around: &M,
-    subject: Subject<'_>,
+    wanted: AskedCheck<'_>,
     path: &str,
     input: &mut R,
     output: &mut W,
 ) -> ExitCode
     ensures { EndsCheckOf (M.around around.now)
-        (record { left = R.remaining input.old; rest = R.remaining input.new; before = R.failures input.old; after = R.failures input.new }) subject.entry path.now
+        (record { left = R.remaining input.old; rest = R.remaining input.new; before = R.failures input.old; after = R.failures input.new }) wanted.entry path.now
         (record { old = W.contents output.old; new = W.contents output.new; before = W.failures output.old; after = W.failures output.new })
         (exit_status result) }
 {
     if is_standard(path) {
-        return check(around, subject, input, output);
+        return check(around, wanted, input, output);
     }
-    check_file(around, subject, path, output)
+    check_file(around, wanted, path, output)
 }
 
 /// Writes what a server answers to the questions of standard input, from the zone of a path.
@@ -509,13 +535,13 @@ pub fn do_text_job<M: Surroundings, R: Source, W: Sink>(
         }
         TextJob::Check(words) => check_job(around, words, input, output),
         TextJob::Policy(words) => {
-            let subject = Subject::Printed(words.source, words.zones);
-            check_of(around, subject, words.file.unwrap_or("-"), input, output)
+            let wanted = asked(Subject::Printed(words.source, words.zones), TextForm::Plain);
+            check_of(around, wanted, words.file.unwrap_or("-"), input, output)
         }
         TextJob::Answer(words) => answer(around, words, input, output),
         TextJob::Reverse(words) => {
-            let subject = Subject::Reverse(words.origin);
-            check_of(around, subject, words.file, input, output)
+            let wanted = asked(Subject::Reverse(words.origin), TextForm::Plain);
+            check_of(around, wanted, words.file, input, output)
         }
         TextJob::Explain(words) => do_task(around, words, &mut Ended, output),
     }

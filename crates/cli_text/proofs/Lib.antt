@@ -33,3 +33,4 @@ pub mod SplitEffectLaws
 pub mod FewItemLaws
 pub mod SerialLaws
 pub mod PrintedLemmas
+pub mod LineObjectLemmas

@@ -1,7 +1,7 @@
 -- What `zones` prints is a list of zones.
 use Rattle.std.proofs.Common.{◌≡◌, ◌∙◌, ℕ, ◌+◌, ◌<◌, Bool, true, false, not, ◌||◌, cond, eqb, List, [], ◌∷◌, ◌++◌, length, map, Option, Some, None, Result, Ok, Err, refl, sym, ap, append_assoc, arith}
 use Rattle.std.specs.Prelude.{bytes_eq}
-use Rattle.std.specs.List.{All, AllByRecursion, find, flat_map, list_any, slice_split}
+use Rattle.std.specs.List.{AllByRecursion, find, flat_map, list_any, slice_split}
 use Rattle.std.specs.Option.{option_to_list}
 use Rattle.std.proofs.Math.Bool.{or-true}
 use Rattle.std.proofs.lemmas.Bool.{false≢true}
@@ -17,11 +17,11 @@ use Rattle.dns_names.specs.Spelling.{label_octets, label_text, name_text}
 use Rattle.dns_names.proofs.ReadingLaws.{absolute_again}
 use Rattle.dns_data.proofs.CutLemmas.{name_visible}
 use Rattle.policy_tools.specs.ExpectationLines.{is_blank, lines_of}
-use Rattle.policy_tools.specs.ExpectationReading.{parts_of, is_comment}
+use Rattle.policy_tools.specs.ExpectationReading.{is_comment}
 use Rattle.cli_core.specs.declared.refusal.Refusal.{Refusal}
 use Rattle.cli_core.specs.LineFaults.{◌>>=◌}
 use Rattle.cli_text.specs.Questions.{name_on}
-use Rattle.cli_text.specs.OriginLists.{first_word, elsewhere, is_passed_over, origin_on, origins_from, origins_of, ListedZone, listed_line, listed_end, IsOneLine, EndIsOneLine, IsListed, ListsAreRead}
+use Rattle.cli_text.specs.OriginLists.{first_word, elsewhere, is_passed_over, origin_on, origins_from, ListedZone, listed_line, listed_end, IsOneLine, EndIsOneLine, IsListed, ListsAreRead}
 
 -- ---- octets of names
 

@@ -7,7 +7,7 @@ use Rattle.wire_json.specs.Json.{listed}
 use Rattle.wire_json.specs.Replies.{lines_value, update_body}
 use Rattle.cli_core.specs.declared.job.PlanObject.{PlanObject}
 use Rattle.cli_core.specs.declared.job.PlanObject.TheVariants.{Reply, Explained}
-use Rattle.cli_text.specs.PlanObjects.{OutcomeOf, refused, made, outcome_object, outcome_text, items_piece, change_members, reply_piece, added_by, removed_by}
+use Rattle.cli_text.specs.PlanObjects.{OutcomeOf, refused, made, outcome_object, outcome_text, items_piece, added_by, removed_by}
 
 -- ---- values with commas between them
 

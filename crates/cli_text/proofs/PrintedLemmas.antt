@@ -1,5 +1,5 @@
 -- Policies as they are printed: the zones that a text names, the rules that are made of groups, and those that are wanted.
-use Rattle.std.proofs.Common.{◌≡◌, ◌⊎◌, inl, inr, ℕ, ◌+◌, ◌<◌, ◌≤◌, List, [], ◌∷◌, ◌++◌, length, drop, get_or, Result, Ok, Err, refl, sym, ap, ◌∙◌, subst, append_assoc, append-nil, Bor}
+use Rattle.std.proofs.Common.{◌≡◌, inl, inr, ℕ, ◌+◌, ◌<◌, ◌≤◌, List, [], ◌∷◌, ◌++◌, length, drop, get_or, Result, Ok, Err, refl, sym, ap, ◌∙◌, subst, append_assoc, append-nil, Bor}
 use Rattle.std.specs.List.{All}
 use Rattle.std.proofs.lemmas.List.{drop_more, drop_all}
 use Rattle.std.proofs.lemmas.List.Elements.{All-nil, All-cons, All-head, All-tail}
@@ -9,7 +9,6 @@ use Rattle.grant_policy.specs.declared.policy_fault.PolicyFault.TheVariants as p
 use Rattle.grant_policy.specs.declared.rule.Rule.{Rule}
 use Rattle.grant_policy.specs.Documents.{document_of}
 use Rattle.grant_policy.specs.Faults.{Refuses}
-use Rattle.grant_policy.specs.Reading.{policy_of}
 use Rattle.policy_build.specs.declared.build_fault.BuildFault.{BuildFault}
 use Rattle.policy_build.specs.declared.build_fault.BuildFault.TheVariants as builds
 use Rattle.policy_build.specs.Faults.{Refuses as NotBuilt}

@@ -1,13 +1,12 @@
 -- The prerequisites on sets only: when they are met, and what each of them tests.
-use Rattle.std.proofs.Common.{◌≡◌, ◌≢◌, ◌↔◌, ◌⊎◌, ℕ, List, [], ◌∷◌, map, length, Bool, true, false, not, ◌&&◌, if◌then◌else◌, inl, inr, refl, sym, ap, subst, ◌∙◌, eqb-true}
+use Rattle.std.proofs.Common.{◌≡◌, ◌≢◌, ◌⊎◌, ℕ, List, [], ◌∷◌, length, Bool, true, false, ◌&&◌, if◌then◌else◌, inl, inr, refl, sym, ap, subst, ◌∙◌, eqb-true}
 use Rattle.std.specs.Prelude.{◌==◌}
-use Rattle.std.specs.List.{AllByRecursion, Contains, filter, list_all, list_any, zip}
+use Rattle.std.specs.List.{filter, list_all, zip}
 use Rattle.std.specs.FinMap.{get}
 use Rattle.std.proofs.lemmas.Bool.{and_parts, false_from_ne_true}
 use Rattle.dns_data.specs.declared.record.Record.{Record}
 use Rattle.dns_data.specs.declared.record_type.RecordType.{RecordType}
 use Rattle.dns_data.specs.declared.record_type.RecordType.TheVariants as types
-use Rattle.dns_data.specs.declared.rdata.Data.{Data}
 use Rattle.dns_data.specs.Rdata.{type_of}
 use Rattle.dns_data.specs.Types.{kept_types}
 use Rattle.zone_core.specs.declared.update.Operation.{Operation}
@@ -16,16 +15,13 @@ use Rattle.zone_core.specs.declared.update.Prerequisite.TheVariants.{RrsetEquals
 use Rattle.zone_core.specs.Sets.{Records, Key, key_of, rank_of, listing, IsIn}
 use Rattle.zone_core.specs.Zones.{ZoneOf, is_soa, is_cname}
 use Rattle.zone_core.specs.Accounts.{Stands}
-use Rattle.zone_core.specs.Met.{HasData, IsMet, AreMet}
+use Rattle.zone_core.specs.Met.{IsMet}
 use Rattle.zone_core.proofs.MetLemmas.{Among, among_of}
-use Rattle.zone_core.proofs.SetLemmas.{by_cases}
-use Rattle.zone_core.proofs.ZoneLemmas.{Keys, is_kind, keys_of, kind, no}
+use Rattle.zone_core.proofs.ZoneLemmas.{Keys, is_kind, kind, no}
 use Rattle.zone_tools.specs.Differences.{is_equal, operations}
-use Rattle.cli_core.specs.declared.job.ItemForm.TheVariants.{Guarded}
-use Rattle.cli_core.specs.declared.job.GuardScope.{GuardScope}
-use Rattle.cli_core.specs.declared.job.GuardScope.TheVariants.{Names, Sets}
-use Rattle.cli_text.specs.Guards.{absent, are_equal, changes_set, comes_first, guards_of, is_below_origin, is_first, is_new, lacks, not_there, set_like, there, types_absent}
-use Rattle.cli_text.specs.GuardPromises.{HaveSameSet, HasRoom, IsOfNoSet, IsTestFor}
+use Rattle.cli_core.specs.declared.job.GuardScope.TheVariants.{Sets}
+use Rattle.cli_text.specs.Guards.{absent, changes_set, comes_first, guards_of, is_below_origin, is_first, is_new, lacks, set_like, there, types_absent}
+use Rattle.cli_text.specs.GuardPromises.{HaveSameSet, IsTestFor}
 use Rattle.cli_text.specs.Diff.{IsReadyFor, NoSoaIsTestedFor, SetsAreEnough, SetsAreTested}
 use Rattle.cli_text.proofs.GuardLaws.{all_among, among_all, among_filter, guards_met, is_comer, listed_in, none_among, none_stands, parts, stands_like}
 use Rattle.cli_text.proofs.OperationLaws.{unequal}

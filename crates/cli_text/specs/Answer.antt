@@ -1,5 +1,5 @@
 -- What `answer` prints: what an authoritative server answers from a zone (RFC 1034 section 4.3.2).
-use Rattle.std.specs.Prelude.{◌≡◌, ℕ, List, [], ◌∷◌, ◌++◌, codes, Bool, if◌then◌else◌, Option, Some, None, Result, Ok, Err}
+use Rattle.std.specs.Prelude.{◌≡◌, ℕ, List, [], ◌∷◌, ◌++◌, codes, Bool, if◌then◌else◌, Option, Result, Ok, Err}
 use Rattle.std.specs.List.{flat_map}
 use Rattle.dns_names.specs.Reading.{absolute_name}
 use Rattle.dns_names.specs.Spelling.{name_text}

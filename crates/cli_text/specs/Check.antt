@@ -24,6 +24,10 @@ use Rattle.cli_text.specs.declared.check.Checking.TheVariants as checking
 use Rattle.cli_text.specs.declared.check.Report.{Report}
 use Rattle.cli_text.specs.declared.check.Subject.{Subject}
 use Rattle.cli_text.specs.declared.check.Subject.TheVariants as subject
+use Rattle.cli_text.specs.declared.check.AskedCheck.{AskedCheck}
+use Rattle.cli_text.specs.declared.line_objects.LineKind.{LineKind}
+use Rattle.cli_text.specs.declared.line_objects.LineKind.TheVariants as kind
+use Rattle.cli_text.specs.LineObjects.{IsPrintedAs}
 use Rattle.cli_core.specs.declared.refusal.Refusal.{Refusal}
 use Rattle.cli_core.specs.declared.refusal.Refusal.TheVariants.{NoCaller}
 use Rattle.cli_core.specs.declared.line_fault.LineFault.{LineFault}
@@ -85,8 +89,8 @@ checking_of (asked.Reach policy caller origin) text = zone_of_file origin text >
 checking_of (asked.Zone origin tests) text = zone_of_file origin text >>= λ zone. Ok (checking.Zone zone tests)
 
 -- the words are read first, and then the input
-abbrev pub checked_read : Subject → List ℕ → Result Checking Refusal
-checked_read subject input = asked_in subject >>= λ wanted. limited input >>= checking_of wanted
+abbrev pub checked_read : AskedCheck → List ℕ → Result Checking Refusal
+checked_read wanted input = asked_in wanted.subject >>= λ read. limited input >>= checking_of read
 
 -- ---- the report on the rules
 
@@ -151,37 +155,51 @@ IsReportOn (checking.Reverse origin records) findings text = IsReverseReport ori
 IsReportOn (checking.Reach policy caller zone) findings text = IsReachReport policy.now caller.now zone findings text
 IsReportOn (checking.Zone zone tests) findings text = IsZoneReport zone tests findings text
 
--- the report on what is read
-abbrev pub ReportsOn : Subject → Option (List ℕ) → Findings → List ℕ → Type 0
-ReportsOn subject left findings text = (made : Checking) × Makes left (checked_read subject) (Ok made) × IsReportOn made findings text
+-- of what the lines of a report are
+abbrev pub kind_of : Checking → LineKind
+kind_of (checking.Rules rules) = kind.IdleRules
+kind_of (checking.Changes old rules) = kind.Changes
+kind_of (checking.Expected policy rows) = kind.Expectations
+kind_of (checking.Zones policy reader zones) = kind.Zones
+kind_of (checking.Isolation caller rules) = kind.Isolation
+kind_of (checking.Rights name rules) = kind.Rights
+kind_of (checking.Printed printed) = kind.Others
+kind_of (checking.Reverse origin records) = kind.Others
+kind_of (checking.Reach policy caller zone) = kind.Questions
+kind_of (checking.Zone zone tests) = kind.Findings
+
+-- the report on what is read, as lines or as their objects
+abbrev pub ReportsOn : AskedCheck → Option (List ℕ) → Findings → List ℕ → Type 0
+ReportsOn wanted left findings text =
+    (made : Checking) × Makes left (checked_read wanted) (Ok made) × IsPrintedAs wanted.form (kind_of made) (IsReportOn made findings) text
 
 -- What was left to read, the answer, that the input did not fail, and that it did.
-abbrev pub Reports : Subject → Option (List ℕ) → Result Report LineFault → Type 0 → Type 0 → Type 0
-Reports subject left (Ok report) fine failed = ReportsOn subject left report.findings report.text.items × fine
-Reports subject left (Err (Refused refusal)) fine failed = Makes left (checked_read subject) (Err refusal) × fine
-Reports subject left (Err NoMemory) fine failed = fine
-Reports subject left (Err ReadFailed) fine failed = failed × ReachesInput (checked_read subject)
+abbrev pub Reports : AskedCheck → Option (List ℕ) → Result Report LineFault → Type 0 → Type 0 → Type 0
+Reports wanted left (Ok report) fine failed = ReportsOn wanted left report.findings report.text.items × fine
+Reports wanted left (Err (Refused refusal)) fine failed = Makes left (checked_read wanted) (Err refusal) × fine
+Reports wanted left (Err NoMemory) fine failed = fine
+Reports wanted left (Err ReadFailed) fine failed = failed × ReachesInput (checked_read wanted)
 
 -- ---- what is written
 
 -- a text that is to be written where this was left to read, that the input did not fail, and that it did
-abbrev pub IsCheckReply : Subject → Option (List ℕ) → Type 0 → Type 0 → List ℕ → Type 0
-IsCheckReply subject left fine failed text =
-    (((findings : Findings) × ReportsOn subject left findings text) × fine)
-    ⊎ ((((refusal : Refusal) × Makes left (checked_read subject) (Err refusal) × (text ≡ refused_line refusal)) × fine)
-    ⊎ (((text ≡ line_of ReadFailed) × failed × ReachesInput (checked_read subject))
+abbrev pub IsCheckReply : AskedCheck → Option (List ℕ) → Type 0 → Type 0 → List ℕ → Type 0
+IsCheckReply wanted left fine failed text =
+    (((findings : Findings) × ReportsOn wanted left findings text) × fine)
+    ⊎ ((((refusal : Refusal) × Makes left (checked_read wanted) (Err refusal) × (text ≡ refused_line refusal)) × fine)
+    ⊎ (((text ≡ line_of ReadFailed) × failed × ReachesInput (checked_read wanted))
     ⊎ ((text ≡ line_of NoMemory) × fine)))
 
 -- What was left to read, what the writer held before and after, how the check went, that the input did not fail, that it did, and the
 -- writer's failures before and after. A failed write leaves a prefix of what was to be written; else it is all written.
-abbrev pub Checked : Subject → Option (List ℕ) → Option (List ℕ) → Option (List ℕ) → Result Findings JobFault → Type 0 → Type 0 → ℕ → ℕ → Type 0
-Checked subject left old new (Ok findings) fine failed writes writes_after =
-    ((text : List ℕ) × ReportsOn subject left findings text × Appends old new text) × fine × (writes_after ≡ writes)
-Checked subject left old new (Err (Reported (Refused refusal))) fine failed writes writes_after =
-    Makes left (checked_read subject) (Err refusal) × Appends old new (refused_line refusal) × fine × (writes_after ≡ writes)
-Checked subject left old new (Err (Reported ReadFailed)) fine failed writes writes_after =
-    Appends old new (line_of ReadFailed) × failed × ReachesInput (checked_read subject) × (writes_after ≡ writes)
-Checked subject left old new (Err (Reported NoMemory)) fine failed writes writes_after =
+abbrev pub Checked : AskedCheck → Option (List ℕ) → Option (List ℕ) → Option (List ℕ) → Result Findings JobFault → Type 0 → Type 0 → ℕ → ℕ → Type 0
+Checked wanted left old new (Ok findings) fine failed writes writes_after =
+    ((text : List ℕ) × ReportsOn wanted left findings text × Appends old new text) × fine × (writes_after ≡ writes)
+Checked wanted left old new (Err (Reported (Refused refusal))) fine failed writes writes_after =
+    Makes left (checked_read wanted) (Err refusal) × Appends old new (refused_line refusal) × fine × (writes_after ≡ writes)
+Checked wanted left old new (Err (Reported ReadFailed)) fine failed writes writes_after =
+    Appends old new (line_of ReadFailed) × failed × ReachesInput (checked_read wanted) × (writes_after ≡ writes)
+Checked wanted left old new (Err (Reported NoMemory)) fine failed writes writes_after =
     Appends old new (line_of NoMemory) × fine × (writes_after ≡ writes)
-Checked subject left old new (Err WriteFailed) fine failed writes writes_after =
-    ((text : List ℕ) × IsCheckReply subject left fine failed text × AppendsFront old new text) × (writes < writes_after)
+Checked wanted left old new (Err WriteFailed) fine failed writes writes_after =
+    ((text : List ℕ) × IsCheckReply wanted left fine failed text × AppendsFront old new text) × (writes < writes_after)

@@ -17,7 +17,11 @@ use Rattle.zone_tools.specs.Differences.{operations, target}
 use Rattle.update_lines.specs.Reading.{items_of}
 use Rattle.update_lines.specs.Texts.{update_text}
 use Rattle.cli_core.specs.declared.job.DiffForm.{DiffForm}
-use Rattle.cli_core.specs.declared.job.DiffForm.TheVariants.{Items, Answers}
+use Rattle.cli_core.specs.declared.job.DiffContent.{DiffContent}
+use Rattle.cli_core.specs.declared.job.DiffContent.TheVariants.{Items, Answers}
+use Rattle.cli_text.specs.declared.line_objects.LineKind.{LineKind}
+use Rattle.cli_text.specs.declared.line_objects.LineKind.TheVariants as kind
+use Rattle.cli_text.specs.LineObjects.{IsPrintedAs}
 use Rattle.cli_core.specs.declared.job.ItemForm.{ItemForm}
 use Rattle.cli_core.specs.declared.job.ItemForm.TheVariants.{Bare, Guarded}
 use Rattle.cli_core.specs.declared.job.GuardScope.{GuardScope}
@@ -50,10 +54,19 @@ update_in form old new =
 abbrev pub items_between : ItemForm → ZoneOf → ZoneOf → List ℕ
 items_between form old new = update_text (update_in form old new)
 
--- what is printed of two zones in a form
+-- the lines of what is printed of two zones
+abbrev pub AreDiffLines : DiffContent → ZoneOf → ZoneOf → List ℕ → Type 0
+AreDiffLines (Items form) old new text = text ≡ items_between form old new
+AreDiffLines Answers old new text = AreAnswerLines old new text
+
+-- of what they are
+abbrev pub kind_of : DiffContent → LineKind
+kind_of (Items form) = kind.Items
+kind_of Answers = kind.Questions
+
+-- what is printed of two zones: the lines, or their objects
 abbrev pub IsDiffText : DiffForm → ZoneOf → ZoneOf → List ℕ → Type 0
-IsDiffText (Items form) old new text = text ≡ items_between form old new
-IsDiffText Answers old new text = AreAnswerLines old new text
+IsDiffText form old new text = IsPrintedAs form.text (kind_of form.content) (AreDiffLines form.content old new) text
 
 -- the zone of an input that is its master file, of the origin of another
 abbrev pub new_read : ZoneOf → List ℕ → Result ZoneOf Refusal

@@ -1,4 +1,5 @@
 pub mod Canon
+pub mod LineObjects
 pub mod Parts
 pub mod Apply
 pub mod PartViews

@@ -1,5 +1,5 @@
 -- The zones of a list: one a line, by the origin that is the first word of the line.
-use Rattle.std.specs.Prelude.{◌≡◌, ℕ, ◌+◌, ◌==◌, List, [], ◌∷◌, ◌++◌, length, map, Bool, false, ◌||◌, not, bytes_eq, codes, if◌then◌else◌, Option, Some, None, Result, Ok, Err}
+use Rattle.std.specs.Prelude.{◌≡◌, ℕ, ◌+◌, ◌==◌, List, [], ◌∷◌, ◌++◌, length, map, Bool, false, ◌||◌, not, bytes_eq, codes, if◌then◌else◌, Option, Some, None, Result, Ok}
 use Rattle.std.specs.List.{All, AllByRecursion, find, flat_map}
 use Rattle.std.specs.Option.{option_to_list}
 use Rattle.dns_names.specs.Labels.{IsName}

@@ -8,6 +8,7 @@ use Rattle.cli_text.specs.declared.changes_fault.ChangesFault.{ChangesFault}
 use Rattle.cli_text.specs.declared.changes_fault.ChangesFault.TheVariants.{Old, New}
 use Rattle.cli_text.specs.PolicyChanges.{policy_read}
 use Rattle.cli_text.specs.Check.{Checked}
+use Rattle.cli_core.specs.declared.job.TextForm.{TextForm}
 use Rattle.cli_core.specs.declared.line_fault.JobFault.{JobFault}
 use Rattle.cli_core.specs.declared.refusal.Refusal.{Refusal}
 use Rattle.cli_core.specs.Inputs.{InputOf}
@@ -27,15 +28,15 @@ IsPolicyRead left before after (Err fault) fine failed writes writes_after =
     Answered left policy_text before after (Err fault) fine failed writes writes_after
 
 -- what is reported of the other policy, where that as it is was read
-abbrev pub AreComparedTo : InputOf → InputOf → Option (List ℕ) → Option (List ℕ) → Result Findings JobFault → ℕ → ℕ → Type 0
-AreComparedTo old new before after result writes writes_after =
+abbrev pub AreComparedTo : TextForm → InputOf → InputOf → Option (List ℕ) → Option (List ℕ) → Result Findings JobFault → ℕ → ℕ → Type 0
+AreComparedTo form old new before after result writes writes_after =
     (policy : Bor Policy) × Makes old.left policy_read (Ok policy.now) × old.fine
-    × Checked (Changes policy) new.left before after result new.fine new.failed writes writes_after
+    × Checked (record { subject = Changes policy; form = form }) new.left before after result new.fine new.failed writes writes_after
 
--- What is known of the policy as it is and of the other, what the writer held before and after, how it went, and the writer's failures
+-- As what the findings are printed, what is known of the policy as it is and of the other, what the writer held before and after, how it went, and the writer's failures
 -- before and after: the policy as it is was refused, or not read, and the other was let be; or else the other was checked against it.
-abbrev pub AreChangesChecked : InputOf → InputOf → Option (List ℕ) → Option (List ℕ) → Result Findings ChangesFault → ℕ → ℕ → Type 0
-AreChangesChecked old new before after (Err (Old fault)) writes writes_after =
+abbrev pub AreChangesChecked : TextForm → InputOf → InputOf → Option (List ℕ) → Option (List ℕ) → Result Findings ChangesFault → ℕ → ℕ → Type 0
+AreChangesChecked form old new before after (Err (Old fault)) writes writes_after =
     Answered old.left policy_text before after (Err fault) old.fine old.failed writes writes_after × new.fine
-AreChangesChecked old new before after (Err (New fault)) writes writes_after = AreComparedTo old new before after (Err fault) writes writes_after
-AreChangesChecked old new before after (Ok findings) writes writes_after = AreComparedTo old new before after (Ok findings) writes writes_after
+AreChangesChecked form old new before after (Err (New fault)) writes writes_after = AreComparedTo form old new before after (Err fault) writes writes_after
+AreChangesChecked form old new before after (Ok findings) writes writes_after = AreComparedTo form old new before after (Ok findings) writes writes_after

@@ -1,5 +1,5 @@
 -- What `check policy --against` prints: what a policy changes against another, by groups of names. And which inputs it reads.
-use Rattle.std.specs.Prelude.{◌≡◌, ℕ, List, [], ◌∷◌, ◌++◌, codes, Option, Result, Ok, Err}
+use Rattle.std.specs.Prelude.{◌≡◌, ℕ, List, [], ◌∷◌, ◌++◌, codes, Result}
 use Rattle.std.specs.List.{flat_map}
 use Rattle.grant_policy.specs.declared.rule.Rule.{Rule}
 use Rattle.grant_policy.specs.Documents.{document_of}

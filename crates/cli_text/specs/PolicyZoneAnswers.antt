@@ -10,6 +10,7 @@ use Rattle.cli_text.specs.PolicyChanges.{policy_read}
 use Rattle.cli_text.specs.PolicyChangeAnswers.{policy_text}
 use Rattle.cli_text.specs.Rights.{caller_if}
 use Rattle.cli_text.specs.Check.{Checked}
+use Rattle.cli_core.specs.declared.job.TextForm.{TextForm}
 use Rattle.cli_core.specs.declared.line_fault.LineFault.{LineFault}
 use Rattle.cli_core.specs.declared.line_fault.JobFault.{JobFault}
 use Rattle.cli_core.specs.Inputs.{InputOf}
@@ -23,22 +24,22 @@ IsWordRefused word before after failed writes writes_after =
     × IsRefusalWritten before after refused (Err failed) writes writes_after
 
 -- what is reported of the zones, where the word and the policy were read
-abbrev pub AreZonesReported : Option (List ℕ) → InputOf → InputOf → Option (List ℕ) → Option (List ℕ) → Result Findings JobFault → ℕ → ℕ → Type 0
-AreZonesReported word first zones before after result writes writes_after =
+abbrev pub AreZonesReported : Option (List ℕ) → TextForm → InputOf → InputOf → Option (List ℕ) → Option (List ℕ) → Result Findings JobFault → ℕ → ℕ → Type 0
+AreZonesReported word form first zones before after result writes writes_after =
     (reader : Option (Bor (List ℕ))) × (policy : Bor Policy) × (caller_if word ≡ Ok (option_map (λ r. r.now) reader))
     × Makes first.left policy_read (Ok policy.now) × first.fine
-    × Checked (Zones policy reader) zones.left before after result zones.fine zones.failed writes writes_after
+    × Checked (record { subject = Zones policy reader; form = form }) zones.left before after result zones.fine zones.failed writes writes_after
 
--- The word of the caller, what is known of the policy and of the zones, what the writer held before and after, how it went, and the writer's
+-- The word of the caller, as what the findings are printed, what is known of the policy and of the zones, what the writer held before and after, how it went, and the writer's
 -- failures before and after: the word was refused, and no input was read; or the policy was refused, or not read, and the zones were let
 -- be; or else they were checked by it.
-abbrev pub AreZonesChecked : Option (List ℕ) → InputOf → InputOf → Option (List ℕ) → Option (List ℕ) → Result Findings PolicyZonesFault → ℕ → ℕ → Type 0
-AreZonesChecked word first zones before after (Err (fault.Reader failed)) writes writes_after =
+abbrev pub AreZonesChecked : Option (List ℕ) → TextForm → InputOf → InputOf → Option (List ℕ) → Option (List ℕ) → Result Findings PolicyZonesFault → ℕ → ℕ → Type 0
+AreZonesChecked word form first zones before after (Err (fault.Reader failed)) writes writes_after =
     IsWordRefused word before after failed writes writes_after × first.fine × zones.fine
-AreZonesChecked word first zones before after (Err (fault.Policy failed)) writes writes_after =
+AreZonesChecked word form first zones before after (Err (fault.Policy failed)) writes writes_after =
     ((reader : Option (List ℕ)) × (caller_if word ≡ Ok reader))
     × Answered first.left policy_text before after (Err failed) first.fine first.failed writes writes_after × zones.fine
-AreZonesChecked word first zones before after (Err (fault.Zones failed)) writes writes_after =
-    AreZonesReported word first zones before after (Err failed) writes writes_after
-AreZonesChecked word first zones before after (Ok findings) writes writes_after =
-    AreZonesReported word first zones before after (Ok findings) writes writes_after
+AreZonesChecked word form first zones before after (Err (fault.Zones failed)) writes writes_after =
+    AreZonesReported word form first zones before after (Err failed) writes writes_after
+AreZonesChecked word form first zones before after (Ok findings) writes writes_after =
+    AreZonesReported word form first zones before after (Ok findings) writes writes_after

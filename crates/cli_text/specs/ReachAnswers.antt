@@ -10,6 +10,7 @@ use Rattle.cli_text.specs.PolicyChanges.{policy_read}
 use Rattle.cli_text.specs.PolicyChangeAnswers.{policy_text}
 use Rattle.cli_text.specs.Plan.{caller_in}
 use Rattle.cli_text.specs.Check.{Checked}
+use Rattle.cli_core.specs.declared.job.TextForm.{TextForm}
 use Rattle.cli_core.specs.declared.line_fault.LineFault.{LineFault}
 use Rattle.cli_core.specs.declared.line_fault.JobFault.{JobFault}
 use Rattle.cli_core.specs.Inputs.{InputOf}
@@ -23,21 +24,21 @@ IsCallerRefused word before after failed writes writes_after =
     × IsRefusalWritten before after refused (Err failed) writes writes_after
 
 -- what is reported of the zone, where the word of the caller and the policy were read
-abbrev pub IsReachReported : List ℕ → Bor (List ℕ) → InputOf → InputOf → Option (List ℕ) → Option (List ℕ) → Result Findings JobFault → ℕ → ℕ → Type 0
-IsReachReported word origin first zone before after result writes writes_after =
+abbrev pub IsReachReported : List ℕ → Bor (List ℕ) → TextForm → InputOf → InputOf → Option (List ℕ) → Option (List ℕ) → Result Findings JobFault → ℕ → ℕ → Type 0
+IsReachReported word origin form first zone before after result writes writes_after =
     (caller : Bor (List ℕ)) × (policy : Bor Policy) × (caller_in word ≡ Ok caller.now) × Makes first.left policy_read (Ok policy.now) × first.fine
-    × Checked (Reach policy caller origin) zone.left before after result zone.fine zone.failed writes writes_after
+    × Checked (record { subject = Reach policy caller origin; form = form }) zone.left before after result zone.fine zone.failed writes writes_after
 
--- The words of the caller and of the origin, what is known of the policy and of the zone, what the writer held before and after, how it
+-- The words of the caller and of the origin, as what the lines are printed, what is known of the policy and of the zone, what the writer held before and after, how it
 -- went, and the writer's failures before and after: the caller was refused, and no input was read; or the policy was refused, or not read,
 -- and the zone was let be; or else the zone was checked by it.
-abbrev pub IsReachChecked : List ℕ → Bor (List ℕ) → InputOf → InputOf → Option (List ℕ) → Option (List ℕ) → Result Findings ReachFault → ℕ → ℕ → Type 0
-IsReachChecked word origin first zone before after (Err (fault.Caller failed)) writes writes_after =
+abbrev pub IsReachChecked : List ℕ → Bor (List ℕ) → TextForm → InputOf → InputOf → Option (List ℕ) → Option (List ℕ) → Result Findings ReachFault → ℕ → ℕ → Type 0
+IsReachChecked word origin form first zone before after (Err (fault.Caller failed)) writes writes_after =
     IsCallerRefused word before after failed writes writes_after × first.fine × zone.fine
-IsReachChecked word origin first zone before after (Err (fault.Policy failed)) writes writes_after =
+IsReachChecked word origin form first zone before after (Err (fault.Policy failed)) writes writes_after =
     ((caller : List ℕ) × (caller_in word ≡ Ok caller)) × Answered first.left policy_text before after (Err failed) first.fine first.failed writes writes_after
     × zone.fine
-IsReachChecked word origin first zone before after (Err (fault.Zone failed)) writes writes_after =
-    IsReachReported word origin first zone before after (Err failed) writes writes_after
-IsReachChecked word origin first zone before after (Ok findings) writes writes_after =
-    IsReachReported word origin first zone before after (Ok findings) writes writes_after
+IsReachChecked word origin form first zone before after (Err (fault.Zone failed)) writes writes_after =
+    IsReachReported word origin form first zone before after (Err failed) writes writes_after
+IsReachChecked word origin form first zone before after (Ok findings) writes writes_after =
+    IsReachReported word origin form first zone before after (Ok findings) writes writes_after

@@ -1,5 +1,5 @@
 -- What `rights --json` prints of a decision: an object of JSON (RFC 8259).
-use Rattle.std.specs.Prelude.{List, ℕ, [], ◌∷◌, ◌++◌, codes}
+use Rattle.std.specs.Prelude.{List, ℕ, [], ◌∷◌, codes}
 use Rattle.grant_policy.specs.Decisions.{Verdict, granted, denied, decider}
 use Rattle.wire_json.specs.Json.{quoted, member, object}
 

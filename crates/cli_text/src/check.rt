@@ -7,11 +7,13 @@ ghost use Rattle.cli_text.specs.ReportLines.{id_text, right_text, other_text};
 ghost use Rattle.cli_text.specs.RightsCheck.{IsRightsText};
 ghost use Rattle.dns_names.specs.Spelling.{name_text};
 ghost use Rattle.cli_core.specs.LineFaults.{Gives, GivesOf};
-ghost use Rattle.cli_text.specs.Check.{rules_in, name_if, asked_in, checking_of, checked_read, idle_head, idle_line, idle_text, findings_of, IsReport, exposure_line, isolation_line, exposures_of, IsIsolationReport, IsReportOn, Reports, Checked};
+ghost use Rattle.cli_text.specs.Check.{rules_in, name_if, asked_in, checking_of, checked_read, idle_head, idle_line, idle_text, findings_of, IsReport, exposure_line, isolation_line, exposures_of, IsIsolationReport, kind_of, IsReportOn, Reports, Checked};
+ghost use Rattle.cli_text.specs.LineObjects.{IsPrintedAs};
 
 use crate::canon::{read_name, zone_of_file};
 use crate::expect::expect_report;
 use crate::expectations::{Expectations, expectations_in};
+use crate::line_objects::{LineKind, in_form};
 use crate::origin_list::{OriginList, origins_in};
 use crate::policy_changes::changes_report;
 use crate::policy_zones::zones_report;
@@ -22,7 +24,8 @@ use crate::rights::read_caller;
 use crate::rights_check::rights_list;
 use crate::zone_check::{ZoneTests, tests_of, zone_report};
 use cli_core::{
-    Input, JobFault, LineFault, PolicySource, ZoneRules, read_input, write_refusal, write_text,
+    Input, JobFault, LineFault, PolicySource, TextForm, ZoneRules, read_input, write_refusal,
+    write_text,
 };
 use dns_master::Sink;
 use dns_names::Name;
@@ -55,6 +58,15 @@ pub enum Subject<'a> {
     Reach(&'a Policy, &'a Identifier, &'a str),
     /// What other name servers refuse or warn of in the zone of this origin, and what else is asked for.
     Zone(&'a str, ZoneRules<'a>),
+}
+
+/// What an input is checked for, and as what the findings are printed.
+#[derive(Clone, Copy)]
+pub struct AskedCheck<'a> {
+    /// What it is checked for.
+    pub subject: Subject<'a>,
+    /// As what the findings are printed.
+    pub form: TextForm,
 }
 
 /// Whether a check found something.
@@ -186,15 +198,15 @@ fn checking_of<'a>(
 /// What is checked, of what a reader gives. The refusals of the words come before those of the input.
 fn checked_read<'a, R: Input>(
     alloc: Global,
-    subject: Subject<'a>,
+    wanted: AskedCheck<'a>,
     reader: &mut R,
 ) -> Result<Checking<'a>, LineFault>
-    ensures { GivesOf (λ checking. checking) (R.left reader.old) (checked_read subject.entry) result (R.fine reader.old reader.new)
+    ensures { GivesOf (λ checking. checking) (R.left reader.old) (checked_read wanted.entry) result (R.fine reader.old reader.new)
         (R.failed reader.old reader.new) }
 {
-    let wanted = asked_in(alloc, subject)?;
+    let asked = asked_in(alloc, wanted.subject)?;
     let text = read_input(alloc, reader)?;
-    checking_of(alloc, wanted, text)
+    checking_of(alloc, asked, text)
 }
 
 /// Appends a space, and the id of the rule of a place.
@@ -386,16 +398,46 @@ fn report_on(alloc: Global, checking: &Checking<'_>) -> Result<Report, AllocErro
     }
 }
 
-/// The report on the policy that a reader gives.
+/// Of what the lines of a report are.
+const fn kind_of(checking: &Checking<'_>) -> LineKind
+    ensures { result ≡ kind_of checking.now }
+{
+    match checking {
+        Checking::Rules(_) => LineKind::IdleRules,
+        Checking::Changes(..) => LineKind::Changes,
+        Checking::Expected(..) => LineKind::Expectations,
+        Checking::Zones(..) => LineKind::Zones,
+        Checking::Isolation(..) => LineKind::Isolation,
+        Checking::Rights(..) => LineKind::Rights,
+        Checking::Printed(_) | Checking::Reverse(..) => LineKind::Others,
+        Checking::Reach(..) => LineKind::Questions,
+        Checking::Zone(..) => LineKind::Findings,
+    }
+}
+
+/// The report on what is checked, as lines or as their objects. The only error is out of memory.
+#[tactic(auto, using(crate::proofs::LineObjectLemmas::printed_as))]
+fn report_in(alloc: Global, form: TextForm, checking: &Checking<'_>) -> Result<Report, AllocError>
+    ensures { IfOk result (λ report. IsPrintedAs form (kind_of checking.now) (IsReportOn checking.now report.findings) report.text.items) }
+{
+    let report = report_on(alloc, checking)?;
+    let text = in_form(alloc, form, kind_of(checking), report.text)?;
+    Ok(Report {
+        findings: report.findings,
+        text,
+    })
+}
+
+/// The report on what a reader gives.
 fn report_read<R: Input>(
     alloc: Global,
-    subject: Subject<'_>,
+    wanted: AskedCheck<'_>,
     reader: &mut R,
 ) -> Result<Report, LineFault>
-    ensures { Reports subject.entry (R.left reader.old) result (R.fine reader.old reader.new) (R.failed reader.old reader.new) }
+    ensures { Reports wanted.entry (R.left reader.old) result (R.fine reader.old reader.new) (R.failed reader.old reader.new) }
 {
-    let checking = checked_read(alloc, subject, reader)?;
-    Ok(report_on(alloc, &checking)?)
+    let checking = checked_read(alloc, wanted, reader)?;
+    Ok(report_in(alloc, wanted.form, &checking)?)
 }
 
 /// Checks the policy that an input is. Of the rules, what is written is a line for each that never decides, in order: `idle`, its place
@@ -405,18 +447,18 @@ fn report_read<R: Input>(
 /// each that is not so: `differs`, its line, and what is decided; or `exceeds`, its line, and a caller, a name, a type, an action and a
 /// rule that grants beyond its limit. Of the zones of a list it is what `do_policy_zones` says. Of a policy that is printed it is the text of
 /// it. Of the answers of a zone it is what `do_reach` says. Of forward zones it is the PTR records that their addresses call for. Otherwise
-/// one line tells the refusal that comes first: of the caller, that the input is too large, or what is
-/// wrong in it.
+/// one line tells the refusal that comes first: of the caller, that the input is too large, or what is wrong in it. As JSON, each line is
+/// an object, whose members have the words of the line.
 pub fn do_check<R: Input, W: Sink>(
     alloc: Global,
-    subject: Subject<'_>,
+    wanted: AskedCheck<'_>,
     reader: &mut R,
     writer: &mut W,
 ) -> Result<Findings, JobFault>
-    ensures { Checked subject.entry (R.left reader.old) (W.contents writer.old) (W.contents writer.new) result (R.fine reader.old reader.new)
+    ensures { Checked wanted.entry (R.left reader.old) (W.contents writer.old) (W.contents writer.new) result (R.fine reader.old reader.new)
         (R.failed reader.old reader.new) (W.failures writer.old) (W.failures writer.new) }
 {
-    match report_read(alloc, subject, reader) {
+    match report_read(alloc, wanted, reader) {
         Ok(report) => {
             write_text(writer, &report.text)?;
             Ok(report.findings)

@@ -4,14 +4,16 @@ ghost use Rattle.std.specs.Prelude.{◌≡◌, ◌<◌, ℕ, IfOk, string_bytes}
 ghost use Rattle.cli_core.specs.LineFaults.{Gives, GivesOf};
 ghost use Rattle.cli_text.specs.Canon.{zone_of_file};
 ghost use Rattle.cli_text.specs.Texts.{GivesText, Told};
-ghost use Rattle.cli_text.specs.Diff.{prerequisites_in, items_between, new_read, IsDiffText, IsOldRead, Differs};
+ghost use Rattle.cli_text.specs.Diff.{prerequisites_in, items_between, new_read, kind_of, AreDiffLines, IsDiffText, IsOldRead, Differs};
 
 use crate::canon::{read_zone, zone_of_file};
 use crate::changed_answers::answer_lines;
 use crate::diff_fault::DiffFault;
 use crate::guard::guards_of;
+use crate::line_objects::{LineKind, in_form};
 use cli_core::{
-    DiffForm, Input, ItemForm, JobFault, LineFault, read_input, write_answer, write_refusal,
+    DiffContent, DiffForm, Input, ItemForm, JobFault, LineFault, read_input, write_octets,
+    write_refusal,
 };
 use dns_master::Sink;
 use std::alloc::{AllocError, Global};
@@ -50,15 +52,40 @@ pub fn items_between(
     lists_text(alloc, &prerequisites, &operations)
 }
 
-/// What is printed of two zones of an origin, in a form. The only error is out of memory.
-fn diff_text(alloc: Global, form: DiffForm, old: Zone, new: Zone) -> Result<String, AllocError>
+/// The lines of what is printed of two zones of an origin. The only error is out of memory.
+fn diff_lines(
+    alloc: Global,
+    content: DiffContent,
+    old: Zone,
+    new: Zone,
+) -> Result<String, AllocError>
     requires { new.origin ≡ old.origin }
-    ensures { IfOk result (λ text. IsDiffText form old new (string_bytes text)) }
+    ensures { IfOk result (λ text. AreDiffLines content old new (string_bytes text)) }
 {
-    match form {
-        DiffForm::Items(form) => items_between(alloc, form, &old, &new),
-        DiffForm::Answers => answer_lines(alloc, old, new),
+    match content {
+        DiffContent::Items(form) => items_between(alloc, form, &old, &new),
+        DiffContent::Answers => answer_lines(alloc, old, new),
     }
+}
+
+/// Of what the lines of a diff are.
+const fn kind_of(content: DiffContent) -> LineKind
+    ensures { result ≡ kind_of content }
+{
+    match content {
+        DiffContent::Items(_) => LineKind::Items,
+        DiffContent::Answers => LineKind::Questions,
+    }
+}
+
+/// The same, as lines or as their objects. The only error is out of memory.
+#[tactic(auto, using(crate::proofs::LineObjectLemmas::printed_as))]
+fn diff_text(alloc: Global, form: DiffForm, old: Zone, new: Zone) -> Result<Vec<u8>, AllocError>
+    requires { new.origin ≡ old.origin }
+    ensures { IfOk result (λ text. IsDiffText form old new text.items) }
+{
+    let lines = diff_lines(alloc, form.content, old, new)?;
+    in_form(alloc, form.text, kind_of(form.content), lines.into_bytes())
 }
 
 /// The zone of a master file, of the origin of another zone. The octets are given back.
@@ -85,8 +112,8 @@ fn answer<R: Input>(
     form: DiffForm,
     old: Zone,
     reader: &mut R,
-) -> Result<String, LineFault>
-    ensures { GivesText string_bytes (IsDiffText form old) (new_read old) (R.left reader.old) result (R.fine reader.old reader.new) (R.failed reader.old reader.new) }
+) -> Result<Vec<u8>, LineFault>
+    ensures { GivesText (λ text. text.items) (IsDiffText form old) (new_read old) (R.left reader.old) result (R.fine reader.old reader.new) (R.failed reader.old reader.new) }
 {
     let new = read_new(alloc, &old, reader)?;
     Ok(diff_text(alloc, form, old, new)?)
@@ -104,7 +131,7 @@ fn write_diff<R: Input, W: Sink>(
     ensures { Told (IsDiffText form old) (new_read old) (R.left reader.old) (W.contents writer.old) (W.contents writer.new) result (R.fine reader.old reader.new)
         (R.failed reader.old reader.new) (W.failures writer.old) (W.failures writer.new) }
 {
-    write_answer(alloc, writer, answer(alloc, form, old, reader))
+    write_octets(alloc, writer, answer(alloc, form, old, reader))
 }
 
 /// The zone of an origin and a reader that gives its master file. On a failure, a line tells why.

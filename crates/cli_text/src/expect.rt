@@ -5,13 +5,13 @@ ghost use Rattle.cli_text.specs.ExpectAnswers.{AreExpected};
 ghost use Rattle.cli_text.specs.Expect.{differs_line, exceeds_line, example_line, IsRowText, IsExpectReport};
 ghost use Rattle.cli_text.specs.ReportLines.{AreTexts};
 
-use crate::check::{Findings, Report, Subject, do_check, push_other, push_right};
+use crate::check::{AskedCheck, Findings, Report, Subject, do_check, push_other, push_right};
 use crate::expect_fault::ExpectFault;
 use crate::expectations::Expectations;
 use crate::policy_changes::old_policy;
 use crate::rights::decision_text;
 use crate::zone_check::told;
-use cli_core::Input;
+use cli_core::{Input, TextForm};
 use dns_master::Sink;
 use grant_policy::{Decision, Policy, Rule};
 use policy_tools::{Counterexample, Excess, ExpectationLine, expectation_fails};
@@ -105,11 +105,12 @@ pub(crate) fn expect_report(
 /// large, or what is wrong in it; and that the expectations are too large, or the first line that is not one.
 pub fn do_expect<R: Input, N: Input, W: Sink>(
     alloc: Global,
+    form: TextForm,
     policy: &mut R,
     expected: &mut N,
     writer: &mut W,
 ) -> Result<Findings, ExpectFault>
-    ensures { AreExpected
+    ensures { AreExpected form
         (record { left = R.left policy.old; fine = R.fine policy.old policy.new; failed = R.failed policy.old policy.new })
         (record { left = N.left expected.old; fine = N.fine expected.old expected.new; failed = N.failed expected.old expected.new }) (W.contents writer.old)
         (W.contents writer.new) result (W.failures writer.old) (W.failures writer.new) }
@@ -118,7 +119,11 @@ pub fn do_expect<R: Input, N: Input, W: Sink>(
         Ok(policy) => policy,
         Err(fault) => return Err(ExpectFault::Policy(fault)),
     };
-    match do_check(alloc, Subject::Expected(&policy), expected, writer) {
+    let wanted = AskedCheck {
+        subject: Subject::Expected(&policy),
+        form,
+    };
+    match do_check(alloc, wanted, expected, writer) {
         Ok(findings) => Ok(findings),
         Err(fault) => Err(ExpectFault::Expected(fault)),
     }

@@ -7,9 +7,9 @@ ghost use Rattle.cli_text.specs.PolicyChanges.{change_lines, or_same, change_row
 ghost use Rattle.cli_text.specs.PolicyChangeAnswers.{IsPolicyRead, AreChangesChecked};
 
 use crate::changes_fault::ChangesFault;
-use crate::check::{Findings, Report, Subject, do_check, policy_in};
+use crate::check::{AskedCheck, Findings, Report, Subject, do_check, policy_in};
 use crate::rights_check::{caller_lines, head_of, scope_text};
-use cli_core::{Input, JobFault, LineFault, read_input, write_refusal};
+use cli_core::{Input, JobFault, LineFault, TextForm, read_input, write_refusal};
 use dns_master::Sink;
 use grant_policy::Policy;
 use policy_tools::{CallerChange, Change, GroupChanges, NameChanges, changes_by_group};
@@ -174,11 +174,12 @@ pub(crate) fn old_policy<R: Input, W: Sink>(
 /// first: that the policy as it is is too large, or what is wrong in it; and the same of the other.
 pub fn do_changes<R: Input, N: Input, W: Sink>(
     alloc: Global,
+    form: TextForm,
     old: &mut R,
     new: &mut N,
     writer: &mut W,
 ) -> Result<Findings, ChangesFault>
-    ensures { AreChangesChecked
+    ensures { AreChangesChecked form
         (record { left = R.left old.old; fine = R.fine old.old old.new; failed = R.failed old.old old.new })
         (record { left = N.left new.old; fine = N.fine new.old new.new; failed = N.failed new.old new.new }) (W.contents writer.old)
         (W.contents writer.new) result (W.failures writer.old) (W.failures writer.new) }
@@ -187,7 +188,11 @@ pub fn do_changes<R: Input, N: Input, W: Sink>(
         Ok(policy) => policy,
         Err(fault) => return Err(ChangesFault::Old(fault)),
     };
-    match do_check(alloc, Subject::Changes(&old), new, writer) {
+    let wanted = AskedCheck {
+        subject: Subject::Changes(&old),
+        form,
+    };
+    match do_check(alloc, wanted, new, writer) {
         Ok(findings) => Ok(findings),
         Err(fault) => Err(ChangesFault::New(fault)),
     }

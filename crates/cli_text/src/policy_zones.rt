@@ -6,13 +6,13 @@ ghost use Rattle.cli_text.specs.ReportLines.{AreTexts};
 ghost use Rattle.cli_text.specs.PolicyZones.{stray_line, unspoken_line, hidden_line, IsStrayText, IsUnspokenText, IsHiddenText, AreHiddenTexts, IsZonesReport};
 ghost use Rattle.cli_text.specs.PolicyZoneAnswers.{AreZonesChecked};
 
-use crate::check::{Findings, Report, Subject, do_check};
+use crate::check::{AskedCheck, Findings, Report, Subject, do_check};
 use crate::origin_list::OriginList;
 use crate::policy_changes::old_policy;
 use crate::policy_zones_fault::PolicyZonesFault;
 use crate::rights::caller_if;
 use crate::zone_check::told;
-use cli_core::{Input, write_refusal};
+use cli_core::{Input, TextForm, write_refusal};
 use dns_master::Sink;
 use dns_names::Name;
 use grant_policy::{Identifier, Policy, Rule};
@@ -156,16 +156,17 @@ pub(crate) fn zones_report(
 /// that begins with no origin.
 pub fn do_policy_zones<R: Input, N: Input, W: Sink>(
     alloc: Global,
-    reader: Option<&str>,
+    what: (Option<&str>, TextForm),
     policy: &mut R,
     zones: &mut N,
     writer: &mut W,
 ) -> Result<Findings, PolicyZonesFault>
-    ensures { AreZonesChecked (option_map (λ w. w.now) reader.entry)
+    ensures { AreZonesChecked (option_map (λ w. w.now) what.entry.0) what.entry.1
         (record { left = R.left policy.old; fine = R.fine policy.old policy.new; failed = R.failed policy.old policy.new })
         (record { left = N.left zones.old; fine = N.fine zones.old zones.new; failed = N.failed zones.old zones.new }) (W.contents writer.old)
         (W.contents writer.new) result (W.failures writer.old) (W.failures writer.new) }
 {
+    let (reader, form) = what;
     let reader = match caller_if(alloc, reader) {
         Ok(reader) => reader,
         Err(fault) => return Err(PolicyZonesFault::Reader(write_refusal(alloc, writer, fault))),
@@ -174,8 +175,11 @@ pub fn do_policy_zones<R: Input, N: Input, W: Sink>(
         Ok(policy) => policy,
         Err(fault) => return Err(PolicyZonesFault::Policy(fault)),
     };
-    let subject = Subject::Zones(&policy, reader.as_ref());
-    match do_check(alloc, subject, zones, writer) {
+    let wanted = AskedCheck {
+        subject: Subject::Zones(&policy, reader.as_ref()),
+        form,
+    };
+    match do_check(alloc, wanted, zones, writer) {
         Ok(findings) => Ok(findings),
         Err(fault) => Err(PolicyZonesFault::Zones(fault)),
     }

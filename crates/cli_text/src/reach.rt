@@ -9,13 +9,13 @@ ghost use Rattle.cli_text.specs.ReachAnswers.{IsReachChecked};
 
 use crate::canon::zone_of_file;
 use crate::changed_answers::push_questions;
-use crate::check::{Findings, Report, Subject, do_check};
+use crate::check::{AskedCheck, Findings, Report, Subject, do_check};
 use crate::policy_changes::old_policy;
 use crate::reach_fault::ReachFault;
 use crate::rights::read_caller;
 use crate::zone_check::told;
 use answer_reach::{ReachedAnswers, ReachedNames, reached_answers};
-use cli_core::{Input, LineFault, write_refusal};
+use cli_core::{Input, LineFault, TextForm, write_refusal};
 use dns_master::Sink;
 use dns_names::Name;
 use grant_policy::{Identifier, Policy};
@@ -79,17 +79,17 @@ pub(crate) fn reach_report(
 /// records as a zone.
 pub fn do_reach<R: Input, N: Input, W: Sink>(
     alloc: Global,
-    what: (&str, &str),
+    what: (&str, &str, TextForm),
     policy: &mut R,
     zone: &mut N,
     writer: &mut W,
 ) -> Result<Findings, ReachFault>
-    ensures { IsReachChecked what.entry.0.now what.entry.1
+    ensures { IsReachChecked what.entry.0.now what.entry.1 what.entry.2
         (record { left = R.left policy.old; fine = R.fine policy.old policy.new; failed = R.failed policy.old policy.new })
         (record { left = N.left zone.old; fine = N.fine zone.old zone.new; failed = N.failed zone.old zone.new }) (W.contents writer.old)
         (W.contents writer.new) result (W.failures writer.old) (W.failures writer.new) }
 {
-    let (caller, origin) = what;
+    let (caller, origin, form) = what;
     let caller = match read_caller(alloc, caller) {
         Ok(caller) => caller,
         Err(fault) => return Err(ReachFault::Caller(write_refusal(alloc, writer, fault))),
@@ -98,8 +98,11 @@ pub fn do_reach<R: Input, N: Input, W: Sink>(
         Ok(policy) => policy,
         Err(fault) => return Err(ReachFault::Policy(fault)),
     };
-    let subject = Subject::Reach(&policy, &caller, origin);
-    match do_check(alloc, subject, zone, writer) {
+    let wanted = AskedCheck {
+        subject: Subject::Reach(&policy, &caller, origin),
+        form,
+    };
+    match do_check(alloc, wanted, zone, writer) {
         Ok(findings) => Ok(findings),
         Err(fault) => Err(ReachFault::Zone(fault)),
     }

@@ -44,10 +44,12 @@ pub fn push_command_answer(
         verb if is_diff(verb) => push_diff(alloc, row, answer),
         "answers" | "answers-json" | "answers-reads" => push_answers(alloc, row, answer),
         verb if is_plan(verb) => push_plan(alloc, row, answer),
-        "expect" | "expect-reads" => push_expect(alloc, row, answer),
-        "beside" | "beside-reads" => push_zones(alloc, row, answer),
-        "reach" | "reach-reads" | "reach-write" => push_reach(alloc, row, answer),
-        "against" | "against-reads" | "against-write" => push_against(alloc, row, answer),
+        "expect" | "expect-json" | "expect-reads" => push_expect(alloc, row, answer),
+        "beside" | "beside-json" | "beside-reads" => push_zones(alloc, row, answer),
+        "reach" | "reach-json" | "reach-reads" | "reach-write" => push_reach(alloc, row, answer),
+        "against" | "against-json" | "against-reads" | "against-write" => {
+            push_against(alloc, row, answer)
+        }
         "no-memory" => push_status(alloc, Err(JobFault::Reported(LineFault::NoMemory)), answer),
         name => push_run(
             alloc,

@@ -1,10 +1,10 @@
 //! What the words of a command line ask for.
 
 use cli_core::{
-    Advice, Answer, Check, DiffForm, Existing, GuardScope, ItemForm, Job, LogChoice, PlanForm,
-    PlanLines, PlanObject, PolicySource, PolicyText, QuestionWords, RequestForm, RuleChoice,
-    Service, StoreJob, StoredZone, TextForm, TextJob, WordsFault, ZoneFiles, ZoneForm, ZoneRules,
-    read_words,
+    Advice, Answer, CheckSubject, DiffContent, Existing, GuardScope, ItemForm, Job, LogChoice,
+    PlanForm, PlanLines, PlanObject, PolicySource, PolicyText, QuestionWords, RequestForm,
+    RuleChoice, Service, StoreJob, StoredZone, TextForm, TextJob, WordsFault, ZoneFiles, ZoneForm,
+    ZoneRules, read_words,
 };
 use std::alloc::{AllocError, Global};
 use test_rows::Row;
@@ -84,7 +84,13 @@ fn push_text_job(alloc: Global, job: &TextJob<'_>, answer: &mut Vec<u8>) -> Resu
             push_given("canon", words.origin, form_text(words.form), answer)
         }
         TextJob::Diff(words) => {
-            push_diff(words.origin, &words.files, diff_text(words.form), answer)
+            push_diff(
+                words.origin,
+                &words.files,
+                diff_text(words.form.content),
+                answer,
+            )?;
+            push(json_text(words.form.text), answer)
         }
         TextJob::Request(words) => {
             push_given("request", words.id, request_text(words.form), answer)
@@ -96,7 +102,10 @@ fn push_text_job(alloc: Global, job: &TextJob<'_>, answer: &mut Vec<u8>) -> Resu
         TextJob::Plan(words) => {
             push_plan(words.policy, words.caller, plan_text(words.form), answer)
         }
-        TextJob::Check(words) => push_check(alloc, words, answer),
+        TextJob::Check(words) => {
+            push_check(alloc, &words.subject, answer)?;
+            push(json_text(words.form), answer)
+        }
         TextJob::Policy(words) => push_policy(words, answer),
         TextJob::Answer(words) => push_inquiry(words, answer),
         TextJob::Reverse(words) => {
@@ -142,12 +151,16 @@ fn push_with(texts: &[&str], given: Option<&str>, answer: &mut Vec<u8>) -> Resul
     push_if_given(given, answer)
 }
 
-fn push_check(alloc: Global, words: &Check<'_>, answer: &mut Vec<u8>) -> Result<(), AllocError> {
-    match words {
-        Check::Policy { policy, against } => {
+fn push_check(
+    alloc: Global,
+    subject: &CheckSubject<'_>,
+    answer: &mut Vec<u8>,
+) -> Result<(), AllocError> {
+    match subject {
+        CheckSubject::Policy { policy, against } => {
             push_with(&["check policy (", policy, ")"], *against, answer)
         }
-        Check::PolicyZones {
+        CheckSubject::PolicyZones {
             policy,
             zones,
             reader,
@@ -155,13 +168,13 @@ fn push_check(alloc: Global, words: &Check<'_>, answer: &mut Vec<u8>) -> Result<
             push_all(&["check policy (", policy, ") zones (", zones, ")"], answer)?;
             push_named(" reader", *reader, answer)
         }
-        Check::Expect { policy, file } => {
+        CheckSubject::Expect { policy, file } => {
             push_with(&["check expect (", policy, ")"], *file, answer)
         }
-        Check::Isolation { policy, caller } => {
+        CheckSubject::Isolation { policy, caller } => {
             push_all(&["check isolation (", policy, ") (", caller, ")"], answer)
         }
-        Check::Reach {
+        CheckSubject::Reach {
             policy,
             caller,
             origin,
@@ -170,10 +183,10 @@ fn push_check(alloc: Global, words: &Check<'_>, answer: &mut Vec<u8>) -> Result<
             let texts = ["check reach (", policy, ") (", caller, ") (", origin, ")"];
             push_with(&texts, *file, answer)
         }
-        Check::Rights { policy, name } => {
+        CheckSubject::Rights { policy, name } => {
             push_with(&["check rights (", policy, ")"], *name, answer)
         }
-        Check::Zone { origin, rules } => {
+        CheckSubject::Zone { origin, rules } => {
             push_all(&["check zone (", origin, ")"], answer)?;
             push_zone_rules(alloc, rules, answer)
         }
@@ -316,12 +329,12 @@ fn push_named(name: &str, given: Option<&str>, answer: &mut Vec<u8>) -> Result<(
     }
 }
 
-fn diff_text(form: DiffForm) -> &'static str {
-    match form {
-        DiffForm::Items(ItemForm::Bare) => "",
-        DiffForm::Items(ItemForm::Guarded(GuardScope::Names)) => " guarded",
-        DiffForm::Items(ItemForm::Guarded(GuardScope::Sets)) => " guarded by sets",
-        DiffForm::Answers => " answers",
+fn diff_text(content: DiffContent) -> &'static str {
+    match content {
+        DiffContent::Items(ItemForm::Bare) => "",
+        DiffContent::Items(ItemForm::Guarded(GuardScope::Names)) => " guarded",
+        DiffContent::Items(ItemForm::Guarded(GuardScope::Sets)) => " guarded by sets",
+        DiffContent::Answers => " answers",
     }
 }
 

@@ -1,10 +1,11 @@
 //! Commands, and the devices that they read and write.
 
+use crate::commands::policies::form_of;
 use crate::commands::trials::{Devices, Trial, tried};
 use cli_core::{
     Answer, Canon, Explain, JobFault, PolicySource, QuestionWords, Rights, TextForm, ZoneForm,
 };
-use cli_text::{Apply, Findings, Request, Split, Subject, Task, do_check};
+use cli_text::{Apply, AskedCheck, Findings, Request, Split, Subject, Task, do_check};
 use dns_master::{Pieces, Sink, Source};
 use std::alloc::{AllocError, Global};
 
@@ -72,7 +73,7 @@ impl Command<'_> {
                 self.run_task(alloc, question_in(words, TextForm::Json), reading, writing)
             }
             "explain" => self.run_task(alloc, asked(words), reading, writing),
-            "check" => self.run_check(alloc, Subject::Rules, reading, writing),
+            "check" | "check-json" => self.run_check(alloc, Subject::Rules, reading, writing),
             "reverse" => self.run_check(alloc, Subject::Reverse(words), reading, writing),
             "build" => self.run_check(
                 alloc,
@@ -86,7 +87,9 @@ impl Command<'_> {
                 reading,
                 writing,
             ),
-            "isolation" => self.run_check(alloc, Subject::Isolation(words), reading, writing),
+            "isolation" | "isolation-json" => {
+                self.run_check(alloc, Subject::Isolation(words), reading, writing)
+            }
             _ => no_command(alloc),
         }
     }
@@ -111,7 +114,10 @@ impl Command<'_> {
     ) -> Result<Printed, AllocError> {
         Ok(tried(
             alloc,
-            Checks(subject),
+            Checks(AskedCheck {
+                subject,
+                form: form_of(self.name),
+            }),
             self.devices(alloc, reading, writing)?,
         ))
     }
@@ -151,7 +157,7 @@ impl<T: Task> Trial for Does<T> {
 
 /// To check a policy.
 #[derive(Clone, Copy)]
-struct Checks<'a>(Subject<'a>);
+struct Checks<'a>(AskedCheck<'a>);
 
 impl Trial for Checks<'_> {
     type Outcome = Result<Findings, JobFault>;

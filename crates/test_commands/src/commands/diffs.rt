@@ -2,7 +2,7 @@
 
 use crate::commands::devices::{Does, Manner};
 use crate::commands::trials::{Devices, Trial, tried};
-use cli_core::{DiffForm, GuardScope, ItemForm};
+use cli_core::{DiffContent, DiffForm, GuardScope, ItemForm, TextForm};
 use cli_text::{Apply, DiffFault, do_diff};
 use dns_master::{Sink, Source};
 use std::alloc::{AllocError, Global};
@@ -20,7 +20,8 @@ struct TwoZones<'a> {
 /// What a diff prints, and how its devices work.
 #[derive(Clone, Copy)]
 struct Manners {
-    form: DiffForm,
+    content: DiffContent,
+    text: TextForm,
     old: Manner,
     new: Manner,
     writing: Manner,
@@ -29,7 +30,8 @@ struct Manners {
 impl Manners {
     /// The operations alone, and devices that never fail.
     const SOUND: Manners = Manners {
-        form: DiffForm::Items(ItemForm::Bare),
+        content: DiffContent::Items(ItemForm::Bare),
+        text: TextForm::Plain,
         old: Manner::SOUND,
         new: Manner::SOUND,
         writing: Manner::SOUND,
@@ -37,21 +39,29 @@ impl Manners {
 
     /// Prerequisites and operations, and devices that never fail.
     const GUARDED: Manners = Manners {
-        form: DiffForm::Items(ItemForm::Guarded(GuardScope::Names)),
+        content: DiffContent::Items(ItemForm::Guarded(GuardScope::Names)),
         ..Manners::SOUND
     };
 
     /// Prerequisites on sets only, and devices that never fail.
     const GUARDED_BY_SETS: Manners = Manners {
-        form: DiffForm::Items(ItemForm::Guarded(GuardScope::Sets)),
+        content: DiffContent::Items(ItemForm::Guarded(GuardScope::Sets)),
         ..Manners::SOUND
     };
 
     /// The questions that are answered otherwise, and devices that never fail.
     const ANSWERS: Manners = Manners {
-        form: DiffForm::Answers,
+        content: DiffContent::Answers,
         ..Manners::SOUND
     };
+
+    /// The same, as JSON.
+    fn as_json(self) -> Manners {
+        Manners {
+            text: TextForm::Json,
+            ..self
+        }
+    }
 }
 
 /// To write what a diff prints of two zones of an origin, in a form.
@@ -97,7 +107,11 @@ impl<'a> TwoZones<'a> {
             second: new,
             writer: manners.writing.device(Vec::new(alloc)),
         };
-        Ok(tried(alloc, Differs(self.origin, manners.form), devices))
+        let form = DiffForm {
+            content: manners.content,
+            text: manners.text,
+        };
+        Ok(tried(alloc, Differs(self.origin, form), devices))
     }
 
     /// What `apply` prints of the old zone and the items.
@@ -135,6 +149,9 @@ pub fn push_diff(alloc: Global, row: &Row<'_>, answer: &mut Vec<u8>) -> Result<(
         "edit-guarded-sets" => push_edited(alloc, zones, Manners::GUARDED_BY_SETS, answer),
         "diff-guarded-sets" => push_run(alloc, zones, Manners::GUARDED_BY_SETS, answer),
         "diff-answers" => push_run(alloc, zones, Manners::ANSWERS, answer),
+        "diff-json" => push_run(alloc, zones, Manners::SOUND.as_json(), answer),
+        "diff-guarded-json" => push_run(alloc, zones, Manners::GUARDED.as_json(), answer),
+        "diff-answers-json" => push_run(alloc, zones, Manners::ANSWERS.as_json(), answer),
         "diff-reads" => push_failed_reads(alloc, zones, answer),
         "diff-write" => push_failed_write(alloc, zones, answer),
         _ => push_run(alloc, zones, Manners::SOUND, answer),

@@ -2,6 +2,7 @@
 
 use crate::commands::devices::Manner;
 use crate::commands::trials::{Devices, Trial, tried};
+use cli_core::TextForm;
 use cli_text::{
     ChangesFault, ExpectFault, Findings, PolicyZonesFault, ReachFault, do_changes, do_expect,
     do_policy_zones, do_reach,
@@ -29,7 +30,7 @@ impl<'a> TwoTexts<'a> {
 
 /// To write what a policy changes against another.
 #[derive(Clone, Copy)]
-struct Compares;
+struct Compares(TextForm);
 
 impl Trial for Compares {
     type Outcome = Result<Findings, ChangesFault>;
@@ -41,13 +42,13 @@ impl Trial for Compares {
         second: &mut N,
         writer: &mut W,
     ) -> Result<Findings, ChangesFault> {
-        do_changes(alloc, first, second, writer)
+        do_changes(alloc, self.0, first, second, writer)
     }
 }
 
 /// To write what is expected of a policy and is not so.
 #[derive(Clone, Copy)]
-struct Expects;
+struct Expects(TextForm);
 
 impl Trial for Expects {
     type Outcome = Result<Findings, ExpectFault>;
@@ -59,7 +60,7 @@ impl Trial for Expects {
         second: &mut N,
         writer: &mut W,
     ) -> Result<Findings, ExpectFault> {
-        do_expect(alloc, first, second, writer)
+        do_expect(alloc, self.0, first, second, writer)
     }
 }
 
@@ -67,6 +68,7 @@ impl Trial for Expects {
 #[derive(Clone, Copy)]
 struct Beside<'a> {
     reader: Option<&'a str>,
+    form: TextForm,
 }
 
 impl Trial for Beside<'_> {
@@ -79,7 +81,7 @@ impl Trial for Beside<'_> {
         second: &mut N,
         writer: &mut W,
     ) -> Result<Findings, PolicyZonesFault> {
-        do_policy_zones(alloc, self.reader, first, second, writer)
+        do_policy_zones(alloc, (self.reader, self.form), first, second, writer)
     }
 }
 
@@ -88,6 +90,7 @@ impl Trial for Beside<'_> {
 struct Reaches<'a> {
     caller: &'a str,
     origin: &'a str,
+    form: TextForm,
 }
 
 impl Trial for Reaches<'_> {
@@ -100,7 +103,17 @@ impl Trial for Reaches<'_> {
         second: &mut N,
         writer: &mut W,
     ) -> Result<Findings, ReachFault> {
-        do_reach(alloc, (self.caller, self.origin), first, second, writer)
+        let what = (self.caller, self.origin, self.form);
+        do_reach(alloc, what, first, second, writer)
+    }
+}
+
+/// As what the verb of a row has something printed.
+pub fn form_of(verb: &str) -> TextForm {
+    if verb.ends_with("-json") {
+        TextForm::Json
+    } else {
+        TextForm::Plain
     }
 }
 
@@ -125,7 +138,7 @@ pub fn push_against(alloc: Global, row: &Row<'_>, answer: &mut Vec<u8>) -> Resul
 /// Appends the answer to a row of a policy and expectations: what is printed of them; or the same where the first read of each fails.
 pub fn push_expect(alloc: Global, row: &Row<'_>, answer: &mut Vec<u8>) -> Result<(), AllocError> {
     let sound = Manner::SOUND;
-    if row.verb == "expect" {
+    if row.verb != "expect-reads" {
         return push_expected(alloc, row, [sound, sound, sound], answer);
     }
     push_expected(alloc, row, [FAILING, sound, sound], answer)?;
@@ -141,7 +154,7 @@ fn push_expected(
     answer: &mut Vec<u8>,
 ) -> Result<(), AllocError> {
     let devices = devices_of(alloc, row, manners)?;
-    let (printed, done) = tried(alloc, Expects, devices);
+    let (printed, done) = tried(alloc, Expects(form_of(row.verb)), devices);
     answer.extend_from_slice(&printed)?;
     push_findings(alloc, done, answer)
 }
@@ -150,7 +163,7 @@ fn push_expected(
 /// read of each fails.
 pub fn push_zones(alloc: Global, row: &Row<'_>, answer: &mut Vec<u8>) -> Result<(), AllocError> {
     let sound = Manner::SOUND;
-    if row.verb == "beside" {
+    if row.verb != "beside-reads" {
         return push_beside(alloc, row, [sound, sound, sound], answer);
     }
     push_beside(alloc, row, [FAILING, sound, sound], answer)?;
@@ -168,6 +181,7 @@ fn push_beside(
     let reader = text_of(&row.text);
     let beside = Beside {
         reader: (!reader.is_empty()).then_some(reader),
+        form: form_of(row.verb),
     };
     let (printed, done) = tried(alloc, beside, devices_of(alloc, row, manners)?);
     answer.extend_from_slice(&printed)?;
@@ -199,7 +213,13 @@ fn push_reached(
     let text = text_of(&row.text);
     let (caller, origin) = text.split_once('|').unwrap_or((text, ""));
     let devices = devices_of(alloc, row, manners)?;
-    let (printed, done) = tried(alloc, Reaches { caller, origin }, devices);
+    let form = form_of(row.verb);
+    let reaches = Reaches {
+        caller,
+        origin,
+        form,
+    };
+    let (printed, done) = tried(alloc, reaches, devices);
     answer.extend_from_slice(&printed)?;
     push_findings(alloc, done, answer)
 }
@@ -223,7 +243,7 @@ fn push_compared(
     answer: &mut Vec<u8>,
 ) -> Result<(), AllocError> {
     let devices = devices_of(alloc, row, manners)?;
-    let (printed, done) = tried(alloc, Compares, devices);
+    let (printed, done) = tried(alloc, Compares(form_of(row.verb)), devices);
     answer.extend_from_slice(&printed)?;
     push_findings(alloc, done, answer)
 }

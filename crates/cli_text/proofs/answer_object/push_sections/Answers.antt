@@ -1,4 +1,4 @@
-use Rattle.std.proofs.Common.{◌++◌, codes}
+use Rattle.std.proofs.Common.{codes}
 use Rattle.std.proofs.lemmas.Result.{on_ok_weaker}
 use Rattle.wire_json.specs.Replies.{lines_value}
 use Rattle.cli_text.specs.AnswerObjects.{authority_key}

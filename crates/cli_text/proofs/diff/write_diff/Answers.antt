@@ -1,7 +1,6 @@
-use Rattle.std.specs.Prelude.{string_bytes}
 use Rattle.cli_text.specs.Diff.{new_read, IsDiffText}
 use Rattle.cli_text.proofs.ToldLemmas.{told_written}
 use Rattle.cli_text.proofs.diff.write_diff.Goals as goal
 
 pub returns : goal.returns
-returns g c = told_written (IsDiffText c.args.form c.args.old) (new_read c.args.old) _ _ _ _ _ _ _ string_bytes c.answer.result c.write_answer.result c.answer.ensures c.write_answer.ensures
+returns g c = told_written (IsDiffText c.args.form c.args.old) (new_read c.args.old) _ _ _ _ _ _ _ (λ text. text.items) c.answer.result c.write_octets.result c.answer.ensures c.write_octets.ensures

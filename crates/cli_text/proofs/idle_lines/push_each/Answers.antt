@@ -1,4 +1,3 @@
-use Rattle.std.specs.Prelude.{string_bytes}
 use Rattle.cli_text.proofs.IdleLineLemmas.{next_line, lines_ended}
 use Rattle.cli_text.proofs.idle_lines.push_each.Goals as goal
 

@@ -1,4 +1,4 @@
-use Rattle.std.proofs.Common.{◌≡◌, ◌∙◌, ◌-◌, ap, List, ℕ, length, take, map, vec_len, rules}
+use Rattle.std.proofs.Common.{◌≡◌, ◌∙◌, ◌-◌, ap, ℕ, length, take, map, vec_len, rules}
 use Rattle.office_core.specs.Footprints.{footprint}
 use Rattle.wire_json.specs.Json.{listed}
 use Rattle.cli_text.specs.PointObjects.{point_object}

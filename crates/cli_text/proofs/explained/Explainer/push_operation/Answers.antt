@@ -1,4 +1,3 @@
-use Rattle.std.proofs.Common.{ap}
 use Rattle.dns_data.specs.declared.record_type.RecordType.TheVariants.{A}
 use Rattle.dns_data.specs.Types.{kept_types}
 use Rattle.zone_core.specs.declared.update.ItemList.TheVariants as lists

@@ -1,4 +1,4 @@
-use Rattle.std.proofs.Common.{List, map, Bor, Vec, Global, subst, sym}
+use Rattle.std.proofs.Common.{map, Bor, Vec, Global, subst, sym}
 use Rattle.std.specs.List.{All}
 use Rattle.std.proofs.lemmas.Result.{IfOk-weaker}
 use Rattle.grant_policy.specs.declared.rule.Rule.{Rule}

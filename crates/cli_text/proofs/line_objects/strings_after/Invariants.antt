@@ -1,0 +1,7 @@
+use Rattle.std.proofs.Common.{◌≡◌, ◌∷◌, take}
+use Rattle.std.specs.List.{flat_map}
+use Rattle.wire_json.specs.Json.{quoted}
+use Rattle.cli_text.proofs.line_objects.strings_after.Given as goal
+
+abbrev pub invariant-loop-word : goal.invariant-loop-word
+invariant-loop-word l = l.text.items ≡ flat_map (λ w. 44 ∷ quoted w.now) (take l.word-index l.words)
