@@ -145,6 +145,11 @@ abbrev pub EndsChanges : {H : Type 0} → Around H → TextForm → List ℕ →
 EndsChanges a form against policy o status = (outcome : Result Findings ChangesFault)
     × AreChangesChecked form (named a against) (named a policy) o.old o.new outcome o.before o.after × (status ≡ check_status_of outcome)
 
+-- a policy by itself, or against another
+abbrev pub EndsPolicy : {H : Type 0} → Around H → TextForm → List ℕ → Option (List ℕ) → Writing → ℕ → Type 0
+EndsPolicy a form policy None o status = EndsCheck (asked Rules form) (a.file policy) ⊤ (a.unreadable policy) o status
+EndsPolicy a form policy (Some against) o status = EndsChanges a form against policy o status
+
 -- The policy of the path is read, and then what is expected of it. At 0 both were read, and all is as expected.
 abbrev pub EndsExpectedBy : {H : Type 0} → Around H → TextForm → List ℕ → InputOf → Writing → ℕ → Type 0
 EndsExpectedBy a form policy expected o status = (outcome : Result Findings ExpectFault)
@@ -211,8 +216,7 @@ AnswerEnds a i w o status =
 
 -- A check reads the file of its policy, and of another against which it is checked, or standard input where that is a zone.
 abbrev pub SubjectEnds : {H : Type 0} → Around H → Reading → Writing → TextForm → CheckSubject → ℕ → Type 0
-SubjectEnds a i o form (check.Policy policy None) status = IsUnread i × EndsCheck (asked Rules form) (a.file policy.now) ⊤ (a.unreadable policy.now) o status
-SubjectEnds a i o form (check.Policy policy (Some against)) status = IsUnread i × EndsChanges a form against.now policy.now o status
+SubjectEnds a i o form (check.Policy policy against) status = IsUnread i × EndsPolicy a form policy.now (option_map (λ p. p.now) against) o status
 SubjectEnds a i o form (check.Expect policy file) status = EndsExpected a i form policy.now (option_map (λ f. f.now) file) o status
 SubjectEnds a i o form (check.PolicyZones policy zones reader) status = EndsZones a i form policy.now (option_map (λ r. r.now) reader) zones.now o status
 SubjectEnds a i o form (check.Isolation policy caller) status =

@@ -124,10 +124,12 @@ fn text_origin(job: TextJob<'_>) -> Option<&str> {
     match job {
         TextJob::Canon(words) => Some(words.origin),
         TextJob::Diff(words) => Some(words.origin),
-        TextJob::Check(Check {
-            subject: CheckSubject::Zone { origin, .. } | CheckSubject::Reach { origin, .. },
-            ..
-        }) => Some(origin),
+        TextJob::Check(
+            Check {
+                subject: CheckSubject::Zone { origin, .. } | CheckSubject::Reach { origin, .. },
+                ..
+            },
+        ) => Some(origin),
         _ => None,
     }
 }

@@ -6,7 +6,7 @@ ghost use Rattle.sqlite.specs.Held.{state};
 ghost use Rattle.cli_text.specs.Plan.{IsPlanned};
 ghost use Rattle.cli_store.specs.Stores.{stores_of};
 ghost use Rattle.cli_store.specs.ImportList.{ListImported};
-ghost use Rattle.cli_store.specs.Program.{Ends, OfInput, EndsTask, EndsCheck, EndsChanges, EndsCheckOf, EndsExpectedBy, EndsExpected, EndsZonesBy, EndsZones, EndsReachBy, EndsReach, EndsTaskOf, IsInquiredOf, AnswerEnds, DiffersBy, named, standard, requested, asked, CheckEnds, TextJobEnds, StoreJobEnds, JobEnds, EndsFault, WordsEnd, IsToldWhole, status_of, check_status_of};
+ghost use Rattle.cli_store.specs.Program.{Ends, OfInput, EndsTask, EndsCheck, EndsChanges, EndsPolicy, EndsCheckOf, EndsExpectedBy, EndsExpected, EndsZonesBy, EndsZones, EndsReachBy, EndsReach, EndsTaskOf, IsInquiredOf, AnswerEnds, DiffersBy, named, standard, requested, asked, CheckEnds, TextJobEnds, StoreJobEnds, JobEnds, EndsFault, WordsEnd, IsToldWhole, status_of, check_status_of};
 
 use crate::files::StoreFiles;
 use crate::import_list::import_all;
@@ -22,11 +22,12 @@ use crate::zone_undo::undo;
 use crate::zones::import;
 use cli_core::{
     Answer, Check, CheckSubject, DiffForm, ImportList, Input, Job, JobFault, NO_MEMORY_LINE,
-    PlanForm, RequestForm, StoreJob, TextForm, TextJob, WordsFault, ZoneFiles, read_words, write_text,
+    PlanForm, RequestForm, StoreJob, TextForm, TextJob, WordsFault, ZoneFiles, read_words,
+    write_text,
 };
 use cli_text::{
-    AnswerFault, Apply, AskedCheck, DiffFault, Findings, Request, Split, Subject, Task, do_answers, do_changes,
-    do_check, do_diff, do_expect, do_plan, do_policy_zones, do_reach,
+    AnswerFault, Apply, AskedCheck, DiffFault, Findings, Request, Split, Subject, Task, do_answers,
+    do_changes, do_check, do_diff, do_expect, do_plan, do_policy_zones, do_reach,
 };
 use dns_master::{Sink, Source};
 use sqlite::{Alter, Connection};
@@ -84,6 +85,13 @@ fn check_status<M: Surroundings, F: Display + Drop>(
     }
 }
 
+/// A check, as what its findings are printed.
+const fn asked(subject: Subject<'_>, form: TextForm) -> AskedCheck<'_>
+    ensures { result ≡ asked subject.entry form }
+{
+    AskedCheck { subject, form }
+}
+
 /// Checks what an input is, with a writer.
 fn check<M: Surroundings, I: Input, W: Sink>(
     around: &M,
@@ -137,6 +145,24 @@ fn changes<M: Surroundings, W: Sink>(
         around,
         do_changes(around.alloc(), form, &mut old, &mut new, output),
     )
+}
+
+/// Checks the policy of a path by itself, or writes what it changes against that of another, if one is given.
+fn policy_or_changes<M: Surroundings, W: Sink>(
+    around: &M,
+    form: TextForm,
+    policy: &str,
+    against: Option<&str>,
+    output: &mut W,
+) -> ExitCode
+    ensures { EndsPolicy (M.around around.now) form policy.now (option_map (λ p. p.now) against.entry)
+        (record { old = W.contents output.old; new = W.contents output.new; before = W.failures output.old; after = W.failures output.new })
+        (exit_status result) }
+{
+    match against {
+        None => check_file(around, asked(Subject::Rules, form), policy, output),
+        Some(against) => changes(around, form, against, policy, output),
+    }
 }
 
 /// Writes what is expected of the policy of a path and is not so, by an input.
@@ -203,13 +229,7 @@ fn policy_zones_of<M: Surroundings, N: Input, W: Sink>(
     };
     check_status(
         around,
-        do_policy_zones(
-            around.alloc(),
-            (reader, form),
-            &mut policy,
-            zones,
-            output,
-        ),
+        do_policy_zones(around.alloc(), (reader, form), &mut policy, zones, output),
     )
 }
 
@@ -288,13 +308,6 @@ fn reach<M: Surroundings, R: Source, W: Sink>(
     reach_of(around, what, &mut file, output)
 }
 
-/// A check, as what its findings are printed.
-const fn asked(subject: Subject<'_>, form: TextForm) -> AskedCheck<'_>
-    ensures { result ≡ asked subject.entry form }
-{
-    AskedCheck { subject, form }
-}
-
 /// Checks what the words of `check` name.
 fn check_job<M: Surroundings, R: Source, W: Sink>(
     around: &M,
@@ -309,14 +322,9 @@ fn check_job<M: Surroundings, R: Source, W: Sink>(
 {
     let form = words.form;
     match words.subject {
-        CheckSubject::Policy {
-            policy,
-            against: None,
-        } => check_file(around, asked(Subject::Rules, form), policy, output),
-        CheckSubject::Policy {
-            policy,
-            against: Some(against),
-        } => changes(around, form, against, policy, output),
+        CheckSubject::Policy { policy, against } => {
+            policy_or_changes(around, form, policy, against, output)
+        }
         CheckSubject::PolicyZones {
             policy,
             zones,
@@ -332,13 +340,23 @@ fn check_job<M: Surroundings, R: Source, W: Sink>(
             file,
         } => reach(around, (policy, caller, origin, form), file, input, output),
         CheckSubject::Isolation { policy, caller } => {
-            check_file(around, asked(Subject::Isolation(caller), form), policy, output)
+            check_file(
+                around,
+                asked(Subject::Isolation(caller), form),
+                policy,
+                output,
+            )
         }
         CheckSubject::Rights { policy, name } => {
             check_file(around, asked(Subject::Rights(name), form), policy, output)
         }
         CheckSubject::Zone { origin, rules } => {
-            check(around, asked(Subject::Zone(origin, rules), form), input, output)
+            check(
+                around,
+                asked(Subject::Zone(origin, rules), form),
+                input,
+                output,
+            )
         }
     }
 }
