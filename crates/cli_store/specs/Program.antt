@@ -4,6 +4,7 @@ use Rattle.std.specs.Borrow.{Bor}
 use Rattle.dns_master.specs.declared.device.DeviceFailed.{DeviceFailed}
 use Rattle.cli_core.specs.declared.commands.check.Check.{Check}
 use Rattle.cli_core.specs.declared.commands.check.CheckSubject.{CheckSubject}
+use Rattle.cli_core.specs.declared.commands.policy.PolicyText.{PolicyText}
 use Rattle.cli_core.specs.declared.commands.check.CheckSubject.TheVariants as check
 use Rattle.cli_core.specs.declared.job.TextForm.{TextForm}
 use Rattle.cli_core.specs.declared.job.TextForm.TheVariants.{Plain}
@@ -229,6 +230,10 @@ SubjectEnds a i o form (check.Zone origin rules) status = EndsCheck (asked (Zone
 abbrev pub CheckEnds : {H : Type 0} → Around H → Reading → Writing → Check → ℕ → Type 0
 CheckEnds a i o words status = SubjectEnds a i o words.form words.subject status
 
+-- the policy of the input that a path names, standard input, if it is `-` or none is given, is printed, or made and printed
+abbrev pub EndsPolicyText : {H : Type 0} → Around H → Reading → Writing → PolicyText → ℕ → Type 0
+EndsPolicyText a i o w status = EndsCheckOf a i (asked (Printed w.source w.zones) Plain) (unwrap_or (option_map (λ f. f.now) w.file) (codes "-")) o status
+
 -- A job that needs no store reads its own input and answers to its own words, and the status is 0 exactly where it went through, and a
 -- check found nothing. What is around, standard input, standard output, the job, and the status. A job whose inputs are files, or that has
 -- none, does not read standard input.
@@ -242,8 +247,7 @@ TextJobEnds a i o (text_job.Rights w) status =
 TextJobEnds a i o (text_job.Plan w) status =
     Ends (λ outcome. IsPlanned w.form w.caller.now (named a w.policy.now) (standard i) o.old o.new outcome o.before o.after) status
 TextJobEnds a i o (text_job.Check w) status = CheckEnds a i o w status
-TextJobEnds a i o (text_job.Policy w) status =
-    EndsCheckOf a i (asked (Printed w.source w.zones) Plain) (unwrap_or (option_map (λ f. f.now) w.file) (codes "-")) o status
+TextJobEnds a i o (text_job.Policy w) status = EndsPolicyText a i o w status
 TextJobEnds a i o (text_job.Answer w) status = AnswerEnds a i w o status
 TextJobEnds a i o (text_job.Reverse w) status = EndsCheckOf a i (asked (Reverse w.origin) Plain) w.file.now o status
 TextJobEnds a i o (text_job.Explain w) status =

@@ -6,7 +6,7 @@ ghost use Rattle.sqlite.specs.Held.{state};
 ghost use Rattle.cli_text.specs.Plan.{IsPlanned};
 ghost use Rattle.cli_store.specs.Stores.{stores_of};
 ghost use Rattle.cli_store.specs.ImportList.{ListImported};
-ghost use Rattle.cli_store.specs.Program.{Ends, OfInput, EndsTask, EndsCheck, EndsChanges, EndsPolicy, EndsCheckOf, EndsExpectedBy, EndsExpected, EndsZonesBy, EndsZones, EndsReachBy, EndsReach, EndsTaskOf, IsInquiredOf, AnswerEnds, DiffersBy, named, standard, requested, asked, CheckEnds, TextJobEnds, StoreJobEnds, JobEnds, EndsFault, WordsEnd, IsToldWhole, status_of, check_status_of};
+ghost use Rattle.cli_store.specs.Program.{Ends, OfInput, EndsTask, EndsCheck, EndsChanges, EndsPolicy, EndsCheckOf, EndsPolicyText, EndsExpectedBy, EndsExpected, EndsZonesBy, EndsZones, EndsReachBy, EndsReach, EndsTaskOf, IsInquiredOf, AnswerEnds, DiffersBy, named, standard, requested, asked, CheckEnds, TextJobEnds, StoreJobEnds, JobEnds, EndsFault, WordsEnd, IsToldWhole, status_of, check_status_of};
 
 use crate::files::StoreFiles;
 use crate::import_list::import_all;
@@ -22,8 +22,8 @@ use crate::zone_undo::undo;
 use crate::zones::import;
 use cli_core::{
     Answer, Check, CheckSubject, DiffForm, ImportList, Input, Job, JobFault, NO_MEMORY_LINE,
-    PlanForm, RequestForm, StoreJob, TextForm, TextJob, WordsFault, ZoneFiles, read_words,
-    write_text,
+    PlanForm, PolicyText, RequestForm, StoreJob, TextForm, TextJob, WordsFault, ZoneFiles,
+    read_words, write_text,
 };
 use cli_text::{
     AnswerFault, Apply, AskedCheck, DiffFault, Findings, Request, Split, Subject, Task, do_answers,
@@ -518,6 +518,26 @@ fn plan<M: Surroundings, R: Source, W: Sink>(
     )
 }
 
+/// Writes a policy that the input of a path has, or that is made of it: standard input, if it is `-` or none is given, or a file.
+fn policy_text<M: Surroundings, R: Source, W: Sink>(
+    around: &M,
+    words: PolicyText<'_>,
+    input: &mut R,
+    output: &mut W,
+) -> ExitCode
+    ensures { EndsPolicyText (M.around around.now)
+        (record { left = R.remaining input.old; rest = R.remaining input.new; before = R.failures input.old; after = R.failures input.new })
+        (record { old = W.contents output.old; new = W.contents output.new; before = W.failures output.old; after = W.failures output.new }) words.entry
+        (exit_status result) }
+{
+    let path = words.file.unwrap_or("-");
+    let wanted = AskedCheck {
+        subject: Subject::Printed(words.source, words.zones),
+        form: TextForm::Plain,
+    };
+    check_of(around, wanted, path, input, output)
+}
+
 /// Does a job that needs no store, with standard input and output. The status is 0 if it went through, and a check found nothing; else
 /// 1.
 pub fn do_text_job<M: Surroundings, R: Source, W: Sink>(
@@ -552,10 +572,7 @@ pub fn do_text_job<M: Surroundings, R: Source, W: Sink>(
             plan(around, words.policy, what, input, output)
         }
         TextJob::Check(words) => check_job(around, words, input, output),
-        TextJob::Policy(words) => {
-            let wanted = asked(Subject::Printed(words.source, words.zones), TextForm::Plain);
-            check_of(around, wanted, words.file.unwrap_or("-"), input, output)
-        }
+        TextJob::Policy(words) => policy_text(around, words, input, output),
         TextJob::Answer(words) => answer(around, words, input, output),
         TextJob::Reverse(words) => {
             let wanted = asked(Subject::Reverse(words.origin), TextForm::Plain);
