@@ -14,6 +14,8 @@ mod reach_map;
 mod reached;
 mod rights;
 mod specimens;
+#[cfg(test)]
+mod tests;
 mod trial;
 mod whole_zone;
 
