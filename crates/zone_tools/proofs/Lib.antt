@@ -13,6 +13,10 @@ pub mod PointerLemmas
 pub mod SharedLemmas
 pub mod LargeSetLemmas
 pub mod HistoryLemmas
+pub mod PastLemmas
+pub mod TouchLemmas
+pub mod ActorLemmas
+pub mod MakerLemmas
 pub mod IdleLemmas
 pub mod InTurnLemmas
 pub mod TestedInTurnLemmas

@@ -4,6 +4,8 @@ pub mod UpdatesInTurn
 pub mod IdleOperations
 pub mod RecordKeys
 pub mod History
+pub mod Makers
+pub mod Past
 pub mod HostNames
 pub mod ReverseNames
 pub mod Pointers

@@ -2,6 +2,7 @@
 
 ghost use Rattle.zone_tools.specs.History.{ChangesAreUndone, RecordsWereThere, BringersAreLast};
 ghost use Rattle.zone_tools.specs.IdleOperations.{IdleOperationsChangeNothing, IdleOperationsNeedTheirPart};
+ghost use Rattle.zone_tools.specs.Makers.{MakersNeedTheirPart, MakersAreFound};
 ghost use Rattle.zone_tools.specs.Pointers.{PointersAreOne};
 ghost use Rattle.zone_tools.specs.ZoneFindings.{CleanZonesHaveGlue};
 ghost use Rattle.zone_tools.specs.UpdatesInTurn.{PartsMakeTheRecords, PartsMakeTheZone, PartsTakeTheSoa, PartsTakeANewerSoa, VerdictsStay, PartsAreMet};
@@ -26,6 +27,13 @@ pub fn clean_zones_have_glue()
 pub fn idle_operations_change_nothing()
     ensures exact { IdleOperationsChangeNothing }
     ensures part { IdleOperationsNeedTheirPart }
+{}
+
+/// What an update reads of a zone tells whether it may have made a change of it. And the update that made a change of a zone is among those
+/// that are found to may have made it, if that and the changes after it led to the zone as it is.
+pub fn makers_are_found()
+    ensures part { MakersNeedTheirPart }
+    ensures found { MakersAreFound }
 {}
 
 /// Lists with the same records have the same pointers: when they are made again, and whatever the order of the records.

@@ -6,6 +6,7 @@
 //! RFC 2181 section 10.3, RFC 4034 section 5).
 #![tactic(auto)]
 
+mod change_makers;
 mod difference;
 mod history;
 mod host_names;
@@ -13,6 +14,7 @@ mod idle;
 mod large_record_sets;
 mod laws;
 mod name_server;
+mod past;
 mod pointers;
 mod record_faults;
 mod record_key;
@@ -26,6 +28,7 @@ mod zone_names;
 mod zone_rule;
 mod zone_survey;
 
+pub use change_makers::makers;
 pub use difference::operations_between;
 pub use history::{bringers, records_before};
 pub use host_names::is_reverse;
@@ -33,7 +36,7 @@ pub use idle::{Idleness, idle_operations};
 pub use large_record_sets::large_sets;
 pub use laws::{
     bringers_are_last, changes_are_undone, clean_zones_have_glue, idle_operations_change_nothing,
-    pointers_are_one, records_were_there, updates_in_turn,
+    makers_are_found, pointers_are_one, records_were_there, updates_in_turn,
 };
 pub use name_server::{NameServer, Reaction};
 pub use pointers::reverse_pointers;

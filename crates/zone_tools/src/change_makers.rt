@@ -1,0 +1,242 @@
+//! Which updates may have made each change of a zone.
+
+ghost use Rattle.std.specs.Prelude.{◌≡◌, ◌↔◌, ◌++◌, ◌+◌, [], ◌∷◌, map, IfOk, OnOk, IsTrue, if◌then◌else◌};
+ghost use Rattle.std.specs.List.{AllByRecursion};
+ghost use Rattle.std.specs.Option.{option_copied};
+ghost use Rattle.dns_names.specs.Order.{same_name};
+ghost use Rattle.zone_core.specs.Sets.{Records};
+ghost use Rattle.zone_core.specs.Updates.{IsUpdate, ActsWithin};
+ghost use Rattle.zone_core.specs.Met.{AreMet};
+ghost use Rattle.zone_core.specs.Effects.{zone_after};
+ghost use Rattle.zone_core.specs.Changes.{change_in, change_between};
+ghost use Rattle.zone_tools.specs.Makers.{MayHaveMade, zone_read, AreMakers, AreMakersByParts, AreMakersOfZones};
+ghost use Rattle.zone_tools.specs.Past.{IsPast, acts_at, actors_at, actors_from, elsewhere, touched_name};
+
+use crate::past::{Past, past_of, rows_read, undo};
+use crate::same::is_equal;
+use dns_data::Record;
+use dns_names::Name;
+use std::alloc::{AllocError, Global};
+use std::collections::BTreeMap;
+use zone_core::{Change, Operation, Update, Zone, ZoneFault, holds};
+
+/// The indexes of updates, in ascending order, under the names that they act at.
+type Actors = BTreeMap<Name, Vec<usize>>;
+
+// ---- updates by the names that they act at
+
+/// Whether an operation acts at a name.
+fn acts_at(operations: &[Operation], name: &Name) -> bool
+    ensures { result ≡ acts_at name.now operations.now }
+{
+    operations.iter().any(|operation| name == operation.name())
+}
+
+/// Adds the index of an update that acts at a name. The only error is out of memory.
+fn add_actor(
+    alloc: Global,
+    actors: &mut Actors,
+    name: &Name,
+    index: usize,
+) -> Result<(), AllocError>
+    ensures { OnOk result
+        ((q : List (List ℕ)) → actors_at actors.new q ≡ (if same_name name.now q then actors_at actors.old q ++ index ∷ [] else actors_at actors.old q)) }
+{
+    match actors.get_mut(name) {
+        Some(indexes) => {
+            indexes.push(index)?;
+        }
+        None => {
+            let mut indexes = Vec::new(alloc);
+            indexes.push(index)?;
+            actors.insert(name.try_copy(alloc)?, indexes)?;
+        }
+    }
+    Ok(())
+}
+
+/// Adds the index of an update at each name that it acts at, once. The only error is out of memory.
+fn add_update(
+    alloc: Global,
+    actors: &mut Actors,
+    update: &Update,
+    index: usize,
+) -> Result<(), AllocError>
+    ensures added { OnOk result
+        ((q : List (List ℕ)) → actors_at actors.new q ≡ actors_at actors.old q ++ (if acts_at q update.now.operations then index ∷ [] else [])) }
+    ensures update { IsUpdate update.now }
+{
+    let operations = update.operations();
+    for (i, operation) in operations.iter().enumerate() {
+        if !acts_at(&operations[..i], operation.name()) {
+            add_actor(alloc, actors, operation.name(), index)?;
+        }
+    }
+    Ok(())
+}
+
+/// The indexes of updates under the names that they act at. The only error is out of memory.
+fn actors_of(alloc: Global, updates: &[Update]) -> Result<Actors, AllocError>
+    ensures actors { IfOk result (λ actors. (q : List (List ℕ)) → actors_at actors q ≡ actors_from q 0 updates.now) }
+    // What holds of every update.
+    ensures updates { OnOk result (AllByRecursion IsUpdate updates.now) }
+{
+    let mut actors = BTreeMap::new(alloc);
+    for (i, update) in updates.iter().enumerate() {
+        add_update(alloc, &mut actors, update, i)?;
+    }
+    Ok(actors)
+}
+
+/// The first record that is not at the origin.
+fn elsewhere<'a>(origin: &Name, records: &'a [Record]) -> Option<&'a Record>
+    ensures { option_copied result ≡ elsewhere origin.now records.now }
+{
+    records.iter().find(|record| record.owner != *origin)
+}
+
+/// A name at which each update acts that may have made a change: that of its first record which is not at the origin, or the origin.
+fn touched_name<'a>(origin: &'a Name, change: &'a Change) -> &'a Name
+    ensures { result.now ≡ touched_name origin.now (change_in change.now) }
+{
+    match elsewhere(origin, &change.removed) {
+        Some(record) => &record.owner,
+        None => match elsewhere(origin, &change.added) {
+            Some(record) => &record.owner,
+            None => origin,
+        },
+    }
+}
+
+/// The indexes of the updates that act at a name.
+fn actors_at<'a>(actors: &'a Actors, name: &Name) -> &'a [usize]
+    ensures { result.now ≡ actors_at actors.now name.now }
+{
+    match actors.get(name) {
+        Some(indexes) => indexes,
+        None => &[],
+    }
+}
+
+// ---- one update and one change
+
+/// Whether two rows have equal records, TTLs counted.
+fn are_equal(rows: &[Record], others: &[Record]) -> bool
+    ensures { IsTrue result ↔ (rows.now ≡ others.now) }
+{
+    if rows.len() != others.len() {
+        return false;
+    }
+    for i in 0..rows.len() {
+        // the proof needs that these are records
+        let _ = (rows[i].record_type(), others[i].record_type());
+        if !is_equal(&rows[i], &others[i]) {
+            return false;
+        }
+    }
+    true
+}
+
+/// Whether two changes remove and add the same, TTLs counted.
+fn is_same(change: &Change, other: &Change) -> bool
+    ensures { IsTrue result ↔ (change_in change.now ≡ change_in other.now) }
+{
+    are_equal(&change.removed, &other.removed) && are_equal(&change.added, &other.added)
+}
+
+/// Whether the prerequisites of an update are met in a zone, and it changes of it what a change does. The only error is out of memory.
+fn makes(alloc: Global, zone: &Zone, update: &Update, change: &Change) -> Result<bool, AllocError>
+    requires { ActsWithin zone.now.origin update.now }
+    ensures { IfOk result
+        (λ made. IsTrue made
+            ↔ (AreMet zone.now.records update.now.prerequisites × (change_between zone.now.records (zone_after zone.now update.now).records ≡ change_in change.now))) }
+{
+    if holds(zone, update).is_err() {
+        return Ok(false);
+    }
+    let made = Change::of_update(alloc, zone, update)?;
+    Ok(is_same(&made, change))
+}
+
+/// Whether an update may have made a change of the zone that the records which it reads are. The only error is out of memory.
+fn may_have_made(
+    alloc: Global,
+    origin: &Name,
+    past: &Past<'_>,
+    update: &Update,
+    change: &Change,
+) -> Result<bool, AllocError>
+    ensures { (set : Records) → IsPast past.now set
+        → IfOk result (λ made. IsTrue made ↔ MayHaveMade (zone_read origin.now set update.now) update.now (change_in change.now)) }
+{
+    if change.is_empty() {
+        return Ok(false);
+    }
+    if update.outside(origin).is_some() {
+        return Ok(false);
+    }
+    let rows = rows_read(alloc, past, origin, update)?;
+    match Zone::build(alloc, origin.try_copy(alloc)?, rows) {
+        Ok(zone) => makes(alloc, &zone, update, change),
+        Err(ZoneFault::NoMemory) => Err(AllocError),
+        Err(_) => Ok(false),
+    }
+}
+
+// ---- all updates and all changes
+
+/// The indexes of the updates that may have made a change of the zone that these records are. The only error is out of memory.
+fn makers_of(
+    alloc: Global,
+    origin: &Name,
+    past: &Past<'_>,
+    updates: &[Update],
+    actors: &Actors,
+    change: &Change,
+) -> Result<Vec<usize>, AllocError>
+    requires updates { AllByRecursion IsUpdate updates.now }
+    requires actors { (q : List (List ℕ)) → actors_at actors.now q ≡ actors_from q 0 updates.now }
+    ensures { (set : Records) → IsPast past.now set
+        → IfOk result (λ indexes. AreMakers (zone_read origin.now set) updates.now (change_in change.now) indexes.items) }
+{
+    let mut indexes = Vec::new(alloc);
+    let candidates = actors_at(actors, touched_name(origin, change));
+    for index in candidates {
+        if may_have_made(alloc, origin, past, &updates[*index], change)? {
+            indexes.push(*index)?;
+        }
+    }
+    Ok(indexes)
+}
+
+/// For each change of a zone the indexes, in ascending order, of those updates that may have made it: each acts within the origin, its
+/// prerequisites are met in the zone before the change, and it removes and adds there what the change does, the serial counted (RFC 2136
+/// section 3). The changes come with the oldest first. The update that made a change is among these, and an import or a replacement is
+/// of none.
+///
+/// It takes the changes back one by one, and tries of the updates those that act at a name of the change, each on what it reads of the
+/// zone. The only error is out of memory.
+pub fn makers(
+    alloc: Global,
+    zone: &Zone,
+    changes: &[Change],
+    updates: &[Update],
+) -> Result<Vec<Vec<usize>>, AllocError>
+    // Which they are, by the records that each update reads.
+    ensures exact { IfOk result
+        (λ found. AreMakersByParts zone.now.origin updates.now (map change_in changes.now) zone.now.records (map (λ indexes. indexes.items) found.items)) }
+    // Where the records before a change are a zone, they are those of that zone.
+    ensures found { IfOk result
+        (λ found. AreMakersOfZones zone.now.origin updates.now (map change_in changes.now) zone.now.records (map (λ indexes. indexes.items) found.items)) }
+{
+    let actors = actors_of(alloc, updates)?;
+    let mut past = past_of(alloc, zone.records())?;
+    let mut found = Vec::with_capacity(alloc, changes.len())?;
+    for at in (0..changes.len()).rev() {
+        let change = &changes[at];
+        undo(alloc, &mut past, change)?;
+        found.push(makers_of(alloc, zone.origin(), &past, updates, &actors, change)?)?;
+    }
+    found.reverse();
+    Ok(found)
+}
