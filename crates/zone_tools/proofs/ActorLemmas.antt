@@ -1,7 +1,7 @@
 -- The indexes of the updates that may have made a change, among those of the updates that act at a name of it.
-use Rattle.std.proofs.Common.{◌≡◌, ◌↔◌, ℕ, zero, suc, ◌+◌, ◌<◌, ◌≤◌, List, [], ◌∷◌, ◌++◌, length, take, get_or, Bool, true, false, cond, ◌||◌, if◌then◌else◌, ◌⊎◌, inl, inr, Option, Some, None, refl, sym, ap, subst, ◌∙◌, arith, append-nil}
+use Rattle.std.proofs.Common.{◌≡◌, ◌↔◌, ℕ, zero, suc, ◌+◌, ◌<◌, List, [], ◌∷◌, ◌++◌, length, take, get_or, Bool, true, false, cond, ◌||◌, if◌then◌else◌, ◌⊎◌, inl, inr, Option, Some, refl, sym, ap, subst, ◌∙◌, arith, append-nil}
 use Rattle.std.specs.Prelude.{slice_get, Vec}
-use Rattle.std.specs.List.{AllByRecursion, Contains, list_any}
+use Rattle.std.specs.List.{AllByRecursion}
 use Rattle.std.specs.List.Sorted.{IsStrictlyIncreasing}
 use Rattle.std.specs.Option.{option_map_or}
 use Rattle.std.specs.Map.{lookup}
@@ -14,7 +14,7 @@ use Rattle.zone_core.specs.declared.update.Operation.{Operation}
 use Rattle.zone_core.specs.Updates.{UpdateOf, IsUpdate, acted_name}
 use Rattle.zone_core.specs.Zones.{ZoneOf}
 use Rattle.zone_core.specs.Changes.{ChangeOf}
-use Rattle.zone_core.proofs.MetLemmas.{Among, among_of, of_among, among_append}
+use Rattle.zone_core.proofs.MetLemmas.{Among, among_of, of_among}
 use Rattle.zone_core.proofs.SetLemmas.{by_cases, name_is, name_self}
 use Rattle.zone_core.proofs.UnmetLemmas.{at_each}
 use Rattle.zone_tools.specs.Makers.{MayHaveMade, AreMakers}
@@ -141,8 +141,12 @@ at_place P [] i d below all = absurd (omega (arith, below))
 at_place P (x ∷ xs) zero d below all = all.0
 at_place P (x ∷ xs) (suc i) d below all = at_place P xs i d (omega (arith, below)) all.1
 
-pub actor_below : (q : Labels) (us : List UpdateOf) (i d : ℕ) → i < length (actors_from q 0 us) → get_or (actors_from q 0 us) i d < length us
+actor_below : (q : Labels) (us : List UpdateOf) (i d : ℕ) → i < length (actors_from q 0 us) → get_or (actors_from q 0 us) i d < length us
 actor_below q us i d below = let lt : get_or (actors_from q 0 us) i d < 0 + length us = at_place (λ j. j < 0 + length us) (actors_from q 0 us) i d below (actors_below q 0 us) in omega arith
+
+pub actor_within : (q : Labels) (us : List UpdateOf) (actors : List ℕ) → actors ≡ actors_from q 0 us → (i : ℕ) → i < length actors → get_or actors i 0 < length us
+actor_within q us actors are i below =
+    subst (λ (xs : List ℕ). get_or xs i 0 < length us) (sym are) (actor_below q us i 0 (subst (λ (xs : List ℕ). i < length xs) are below))
 
 -- each update that acts at the name is there
 actors_have : (q : Labels) (n : ℕ) (us : List UpdateOf) (i : ℕ) (u : UpdateOf) → slice_get us i ≡ Some u → acts_at q u.operations ≡ true → Among (n + i) (actors_from q n us)
@@ -237,6 +241,14 @@ module _ (Q : ℕ → Type 0) where
         where
           by_place : Among i (x ∷ zs) → Among i (x ∷ xs) × Q i
           by_place a = (elim a [ inl e ↦ (inl e, subst Q (sym e) so) | inr later ↦ (let both = rest.0 later in (inr both.0, both.1)) ])
+
+  -- those of one number more
+  pub chosen_in : (xs ys zs : List ℕ) (i : ℕ) → i < length xs → Q (get_or xs i 0) → zs ≡ ys ++ get_or xs i 0 ∷ [] → Chosen Q (take i xs) ys → Chosen Q (take (i + 1) xs) zs
+  chosen_in xs ys zs i below so are c =
+      subst (λ (ws : List ℕ). Chosen Q ws zs) (sym (take_more xs i 0 below)) (subst (Chosen Q (take i xs ++ get_or xs i 0 ∷ [])) (sym are) (chosen_push (take i xs) ys (get_or xs i 0) so c))
+
+  pub chosen_out : (xs ys : List ℕ) (i : ℕ) → i < length xs → (Q (get_or xs i 0) → ⊥) → Chosen Q (take i xs) ys → Chosen Q (take (i + 1) xs) ys
+  chosen_out xs ys i below not_so c = subst (λ (ws : List ℕ). Chosen Q ws ys) (sym (take_more xs i 0 below)) (chosen_skip (take i xs) ys (get_or xs i 0) not_so c)
 
 -- ---- the makers of a change
 

@@ -1,8 +1,8 @@
 -- Which updates may have made the changes of a zone.
-use Rattle.std.proofs.Common.{◌≡◌, ◌↔◌, ℕ, zero, suc, ◌+◌, ◌<◌, ◌≤◌, List, [], ◌∷◌, ◌++◌, length, take, drop, get_or, map, reverse, Bool, true, false, cond, ◌||◌, ◌&&◌, Option, Some, None, Result, Ok, Err, refl, sym, ap, subst, ◌∙◌, arith, add-one}
+use Rattle.std.proofs.Common.{◌≡◌, ◌≢◌, ◌↔◌, ℕ, ◌+◌, ◌-◌, ◌<◌, ◌≤◌, List, [], ◌∷◌, ◌++◌, length, take, drop, get_or, map, reverse, Bool, true, false, ◌||◌, Option, Some, None, is_some, Result, Ok, Err, refl, sym, ap, subst, ◌∙◌, arith, add-one}
 use Rattle.std.specs.Prelude.{slice_get, Vec}
-use Rattle.std.specs.List.{AllByRecursion, Contains, list_any}
-use Rattle.std.specs.Result.{is_err}
+use Rattle.std.specs.List.{AllByRecursion, list_any}
+use Rattle.std.specs.Result.{is_err, IfOk}
 use Rattle.std.proofs.lemmas.List.{take_more, take_all, drop_all, get_or_default, reverse-append, map-append}
 use Rattle.std.proofs.lemmas.List.Folds.{list_any-append}
 use Rattle.std.proofs.Math.Seq.{drop-cons}
@@ -10,29 +10,30 @@ use Rattle.dns_data.specs.declared.record.Record.{Record}
 use Rattle.dns_data.specs.Rdata.{IsRecord}
 use Rattle.zone_core.specs.declared.change.Change.{Change}
 use Rattle.zone_core.specs.declared.faults.ZoneFault.{ZoneFault}
+use Rattle.zone_core.specs.declared.faults.ZoneFault.TheVariants as faults
+use Rattle.zone_core.specs.Faults.{Gives, Refuses}
 use Rattle.zone_core.specs.declared.verdict.Failed.{Failed}
-use Rattle.zone_core.specs.declared.update.Prerequisite.{Prerequisite}
-use Rattle.zone_core.specs.Sets.{Records, Key, key_of, listing, part, minus, at_name, set_of}
+use Rattle.zone_core.specs.Sets.{Records, Key, listing, part, at_name}
 use Rattle.zone_core.specs.Zones.{ZoneOf, IsZone, AreKept, zone_of, built, latest, min_rrset_ttls, unless_fault, fault_in}
-use Rattle.zone_core.specs.Updates.{UpdateOf, IsUpdate, IsPrerequisite, ActsWithin, tested_name, acted_name, item_names}
+use Rattle.zone_core.specs.Updates.{UpdateOf, IsUpdate, ActsWithin, tested_name, acted_name, item_names}
 use Rattle.zone_core.specs.Prerequisites.{verdict, failure}
 use Rattle.zone_core.specs.Effects.{zone_after}
 use Rattle.zone_core.specs.Met.{AreMet}
 use Rattle.zone_core.specs.Parts.{tested, touched, part_of, at_names, Covers, DoesForZone}
 use Rattle.zone_core.specs.Rebuilt.{AreAllOf}
-use Rattle.zone_core.specs.Changes.{ChangeOf, change_in, change_between, changed, is_empty}
+use Rattle.zone_core.specs.Changes.{ChangeOf, change_in, change_between, is_empty}
 use Rattle.zone_core.proofs.SetLemmas.{name_self}
-use Rattle.zone_core.proofs.ChangedLemmas.{listed, kept_in_part}
+use Rattle.zone_core.proofs.ChangedLemmas.{listed}
 use Rattle.zone_core.proofs.MetLemmas.{met_answer}
 use Rattle.zone_core.proofs.NeedLemmas.{part_is_zone, updates_need}
 use Rattle.zone_core.proofs.RebuiltLemmas.{latest_is, min_rrset_ttls_is}
 use Rattle.zone_core.proofs.UnmetLemmas.{at_each}
 use Rattle.zone_core.proofs.WholeLemmas.{no_fault}
 use Rattle.zone_tools.specs.Differences.{is_equal}
-use Rattle.zone_tools.specs.History.{before, undone, Leads}
-use Rattle.zone_tools.specs.Makers.{MayHaveMade, read_by, zone_read, AreMakers, EachHas, AreMakersByParts, AreMakersOfZones, MakersNeedTheirPart, MakersAreFound}
+use Rattle.zone_tools.specs.History.{before, undone}
+use Rattle.zone_tools.specs.Makers.{MayHaveMade, zone_read, AreMakers, EachHas, AreMakersByParts, AreMakersOfZones, MakersNeedTheirPart, MakersAreFound}
 use Rattle.zone_tools.proofs.DiffSoaLemmas.{equal_is, is_equal_self}
-use Rattle.zone_tools.proofs.HistoryLemmas.{changes_are_undone}
+use Rattle.zone_tools.proofs.HistoryLemmas.{changes_are_undone, undone_next}
 use Rattle.zone_tools.proofs.PastLemmas.{all_listed}
 
 abbrev Labels : Type 0
@@ -46,6 +47,10 @@ unequal xs ys i x y below also at_x at_y differ same =
     let bad : true ≡ false = sym (is_equal_self x) ∙ ap (is_equal x) (sym one) ∙ differ in
     cc
 
+-- what is read twice is the same
+pub same_read : (xs : List Record) (i : ℕ) (x y : Record) → i < length xs → x ≡ get_or xs i x → y ≡ get_or xs i y → x ≡ y
+same_read xs i x y below at_x at_y = at_x ∙ get_or_default xs i x y below ∙ sym at_y
+
 pub equal_more : (xs ys : List Record) (i : ℕ) (x y : Record) → i < length xs → i < length ys → x ≡ get_or xs i x → y ≡ get_or ys i y → IsRecord x → IsRecord y → is_equal x y ≡ true
     → take i xs ≡ take i ys → take (i + 1) xs ≡ take (i + 1) ys
 equal_more xs ys i x y below also at_x at_y is is_too same so_far =
@@ -58,13 +63,15 @@ equal_all xs ys i same end so_far = let past : length ys ≤ i = omega arith in 
 pub other_length : (xs ys : List Record) → (length xs ≡ length ys → ⊥) → xs ≡ ys → ⊥
 other_length xs ys differ same = differ (ap length same)
 
-pub both_sides : (c d : Change) (a b : Bool) → (a ≡ true) ↔ (c.removed.items ≡ d.removed.items) → (b ≡ true) ↔ (c.added.items ≡ d.added.items) → ((a && b) ≡ true) ↔ (change_in c ≡ change_in d)
-both_sides c d true true first second = (
-  λ _. λ i. record { removed = first.0 refl i; added = second.0 refl i },
-  λ e. refl,
+-- changes are one where both sides are
+pub other_side : (c d : Change) (a : Bool) → (a ≡ true) ↔ (c.removed.items ≡ d.removed.items) → a ≡ false → (false ≡ true) ↔ (change_in c ≡ change_in d)
+other_side c d a first differ = (λ t. absurd cc, λ e. sym differ ∙ first.1 (ap (λ (x : ChangeOf). x.removed) e))
+
+pub both_sides : (c d : Change) (a b : Bool) → (a ≡ true) ↔ (c.removed.items ≡ d.removed.items) → a ≡ true → (b ≡ true) ↔ (c.added.items ≡ d.added.items) → (b ≡ true) ↔ (change_in c ≡ change_in d)
+both_sides c d a b first same second = (
+  λ t. λ i. record { removed = first.0 same i; added = second.0 t i },
+  λ e. second.1 (ap (λ (x : ChangeOf). x.added) e),
 )
-both_sides c d true false first second = (λ t. absurd cc, λ e. second.1 (ap (λ (x : ChangeOf). x.added) e))
-both_sides c d false b first second = (λ t. absurd cc, λ e. first.1 (ap (λ (x : ChangeOf). x.removed) e))
 
 -- ---- prerequisites that are met
 
@@ -75,6 +82,30 @@ not_met (Err f) met e p = let bad = met.1 p in absurd cc
 pub is_met : {P : Type 0} (r : Result (Unit {0}) Failed) → (r ≡ Ok tt) ↔ P → is_err r ≡ false → P
 is_met (Ok x) met e = met.0 refl
 is_met (Err f) met e = absurd cc
+
+-- what is told of a test that fails
+pub not_so : {P : Type 0} → (P → ⊥) → (false ≡ true) ↔ P
+not_so f = (λ t. absurd cc, λ p. absurd (f p))
+
+pub none_is : {X : Type 0} (o : Option X) → is_some o ≡ false → o ≡ None
+none_is None e = refl
+none_is (Some x) e = absurd cc
+
+pub if_weaker : {T E : Type 0} {P Q : T → Type 0} (r : Result T E) → ((x : T) → P x → Q x) → IfOk r P → IfOk r Q
+if_weaker (Ok x) f p = f x p
+if_weaker (Err e) f p = tt
+
+-- an update whose prerequisites are met makes what it changes
+pub met_makes : {M : Type 0} (made between change : ChangeOf) (b : Bool) → M → made ≡ between → (b ≡ true) ↔ (made ≡ change) → (b ≡ true) ↔ (M × (between ≡ change))
+met_makes made between change b met is same = (λ t. (met, sym is ∙ same.0 t), λ both. same.1 (is ∙ both.1))
+
+-- and what it makes of the zone that it has it may have made
+pub may_is : (zone whole : ZoneOf) (update : UpdateOf) (change : ChangeOf) (b : Bool) → zone ≡ whole → IsZone zone → ActsWithin zone.origin update → is_empty change ≡ false
+    → (b ≡ true) ↔ (AreMet zone.records update.prerequisites × (change_between zone.records (zone_after zone update).records ≡ change)) → (b ≡ true) ↔ MayHaveMade whole update change
+may_is zone whole update change b same z acts some told = subst (λ (w : ZoneOf). (b ≡ true) ↔ MayHaveMade w update change) same (
+  λ t. let both = told.0 t in record { is_zone = z; inside = acts; met = both.0; something = some; makes = both.1 },
+  λ may. told.1 (may.met, may.makes),
+)
 
 -- ---- what an update reads
 
@@ -169,12 +200,28 @@ built_is origin rows zone e = by_fault (fault_in origin (min_rrset_ttls (latest 
     by_fault None f = let one : record { origin = origin; records = min_rrset_ttls (latest rows) } ≡ zone = cc in sym one
     by_fault (Some fault) f = absurd cc
 
+pub built_ok : (origin own : Labels) (rows : List Record) (zone : ZoneOf) (answer : Result ZoneOf ZoneFault) → own ≡ origin → answer ≡ Ok zone → Gives (λ (z : ZoneOf). z) answer (built own rows) → zone ≡ zone_of origin rows
+built_ok origin own rows zone answer same is given =
+    built_is origin rows zone (subst (λ (o : Labels). built o rows ≡ Ok zone) same (subst (λ (r : Result ZoneOf ZoneFault). Gives (λ (z : ZoneOf). z) r (built own rows)) is given))
+
 -- and what is refused would be none
-pub refused_not : (origin : Labels) (rows : List Record) (fault : ZoneFault) → built origin rows ≡ Err fault → IsZone (zone_of origin rows) → ⊥
-refused_not origin rows fault e is =
+pub refused_not : (origin : Labels) (rows : List Record) (fault : ZoneFault) → fault ≢ faults.NoMemory → Refuses fault (built origin rows) → IsZone (zone_of origin rows) → ⊥
+refused_not origin rows fault other refused is =
+    let e : built origin rows ≡ Err fault = told fault other (built origin rows) refused in
     let none : built origin rows ≡ Ok (zone_of origin rows) = ap (unless_fault origin (min_rrset_ttls (latest rows))) (no_fault origin (min_rrset_ttls (latest rows)) is.kept is) in
     let bad : ◌≡◌ {A = Result ZoneOf ZoneFault} (Ok (zone_of origin rows)) (Err fault) = sym none ∙ e in
     cc
+  where
+    told : (fault : ZoneFault) → fault ≢ faults.NoMemory → (made : Result ZoneOf ZoneFault) → Refuses fault made → made ≡ Err fault
+    told faults.RootOrigin other made e = e
+    told faults.OutOfZone other made e = e
+    told faults.SoaNotAtOrigin other made e = e
+    told faults.NoSoa other made e = e
+    told faults.TwoSoa other made e = e
+    told faults.NoOriginNs other made e = e
+    told faults.TwoCnames other made e = e
+    told faults.CnameAndOther other made e = e
+    told faults.NoMemory other made e = absurd (other refl)
 
 -- ---- all changes
 
@@ -213,6 +260,46 @@ each_more {A} P changes set i change found indexes below is so_far here =
     ap reverse (map-append (λ (v : Vec ℕ A). v.items) found (indexes ∷ [])) ∙ reverse-append (map (λ (v : Vec ℕ A). v.items) found) (indexes.items ∷ []) in
     subst (λ (cs : List Change). EachHas P (map change_in cs) set (reverse (map (λ (v : Vec ℕ A). v.items) (found ++ indexes ∷ [])))) (sym front)
     (subst (EachHas P (map change_in (change ∷ drop (i + 1) changes)) set) (sym lists) (here, so_far))
+
+-- at first none is found
+pub each_none : {A : Type 0} (P : Records → ChangeOf → List ℕ → Type 0) (changes : List Change) (set : Records) (i : ℕ) (found : List (Vec ℕ A)) → length changes ≤ i → found ≡ []
+    → EachHas P (map change_in (drop i changes)) set (reverse (map (λ v. v.items) found))
+each_none {A} P changes set i found end none =
+    subst (λ (cs : List Change). EachHas P (map change_in cs) set (reverse (map (λ (v : Vec ℕ A). v.items) found))) (sym (drop_all i changes end))
+    (subst (λ (lists : List (Vec ℕ A)). EachHas P [] set (reverse (map (λ (v : Vec ℕ A). v.items) lists))) (sym none) tt)
+
+-- and then those of the change before the ones that were undone
+module _ (changes : List Change) (set : Records) (at : ℕ) (change : Change) (some : 0 < at) (fits : at ≤ length changes) (is : change ≡ get_or changes (at - 1) change) where
+  abbrev after : Records
+  after = before (map change_in (drop at changes)) set
+
+  one : at - 1 + 1 ≡ at
+  one = omega arith
+
+  here : at - 1 < length changes
+  here = omega arith
+
+  pub past_next : undone (change_in change) after ≡ before (map change_in (drop (at - 1) changes)) set
+  past_next = sym (undone_next changes (at - 1) change here is set ∙ ap (λ (n : ℕ). undone (change_in change) (before (map change_in (drop n changes)) set)) one)
+
+  pub each_next : {A : Type 0} (P : Records → ChangeOf → List ℕ → Type 0) (found : List (Vec ℕ A)) (indexes : Vec ℕ A) → EachHas P (map change_in (drop at changes)) set (reverse (map (λ v. v.items) found)) → P (undone (change_in change) after) (change_in change) indexes.items
+      → EachHas P (map change_in (drop (at - 1) changes)) set (reverse (map (λ v. v.items) (found ++ indexes ∷ [])))
+  each_next {A} P found indexes so_far now =
+      each_more P changes set (at - 1) change found indexes here is (subst (λ (n : ℕ). EachHas P (map change_in (drop n changes)) set (reverse (map (λ (v : Vec ℕ A). v.items) found))) (sym one) so_far)
+      (subst (λ (n : ℕ). P (undone (change_in change) (before (map change_in (drop n changes)) set)) (change_in change) indexes.items) (sym one) now)
+
+map_reverse : {X Y : Type 0} (f : X → Y) (xs : List X) → map f (reverse xs) ≡ reverse (map f xs)
+map_reverse f [] = refl
+map_reverse f (x ∷ xs) =
+    ap (map f) (reverse-append (x ∷ []) xs) ∙ map-append f (reverse xs) (x ∷ []) ∙ ap (λ ys. ys ++ f x ∷ []) (map_reverse f xs) ∙ sym (reverse-append (f x ∷ []) (map f xs))
+
+-- at last all are found, from the first on
+pub each_found : {A : Type 0} (P : Records → ChangeOf → List ℕ → Type 0) (changes : List Change) (set : Records) (at : ℕ) (found turned : List (Vec ℕ A)) → at ≡ 0 → turned ≡ reverse found
+    → EachHas P (map change_in (drop at changes)) set (reverse (map (λ v. v.items) found)) → EachHas P (map change_in changes) set (map (λ v. v.items) turned)
+each_found {A} P changes set at found turned end are each =
+    let all : EachHas P (map change_in changes) set (reverse (map (λ (v : Vec ℕ A). v.items) found)) =
+    subst (λ (n : ℕ). EachHas P (map change_in (drop n changes)) set (reverse (map (λ (v : Vec ℕ A). v.items) found))) end each in
+    subst (EachHas P (map change_in changes) set) (sym (map_reverse (λ (v : Vec ℕ A). v.items) found) ∙ ap (map (λ (v : Vec ℕ A). v.items)) (sym are)) all
 
 -- ---- the update that made a change
 

@@ -1,8 +1,7 @@
 -- The records of a zone before its changes, as they are held.
-use Rattle.std.proofs.Common.{◌≡◌, ◌↔◌, ℕ, ◌+◌, ◌<◌, List, [], ◌∷◌, ◌++◌, ◌≤◌, length, take, drop, get_or, map, Bool, true, false, cond, not, ◌&&◌, ◌||◌, Option, Some, None, refl, sym, ap, subst, ◌∙◌, arith, add-one}
-use Rattle.std.specs.declared.cmp.Ordering.{Ordering}
-use Rattle.std.specs.declared.cmp.Ordering.TheVariants.{Less, Equal, Greater}
-use Rattle.std.specs.Ordering.{is_lt, is_eq}
+use Rattle.std.proofs.Common.{◌≡◌, ◌↔◌, ℕ, ◌+◌, ◌-◌, ◌<◌, List, [], ◌∷◌, ◌++◌, ◌≤◌, length, take, drop, get_or, map, Bool, true, false, cond, ◌&&◌, ◌||◌, Option, Some, None, refl, sym, ap, subst, ◌∙◌, arith, add-one}
+use Rattle.std.specs.declared.cmp.Ordering.TheVariants.{Less}
+use Rattle.std.specs.Ordering.{is_lt}
 use Rattle.std.specs.List.{AllByRecursion, Contains, list_any}
 use Rattle.std.specs.List.Sorted.{IsStrictlySortedBy}
 use Rattle.std.specs.Option.{option_or, option_map_or}
@@ -27,7 +26,7 @@ use Rattle.zone_core.specs.Updates.{UpdateOf, item_names}
 use Rattle.zone_core.specs.Rebuilt.{AreAllOf}
 use Rattle.zone_core.specs.Delegations.{AreNamesOf}
 use Rattle.zone_core.specs.Changes.{without}
-use Rattle.zone_core.proofs.SetLemmas.{by_cases, name_is, name_self, one_key, key_is, key_self, get-part, get-cut, get-put, kept_by_put, found_of_part, same_sets, same_parts}
+use Rattle.zone_core.proofs.SetLemmas.{by_cases, name_is, name_self, one_key, key_is, get-part, get-cut, get-put, kept_by_put, found_of_part, same_sets, same_parts}
 use Rattle.zone_core.proofs.RowLemmas.{get-set_of, each_in, in_has}
 use Rattle.zone_core.proofs.ChangedLemmas.{listed, kept_in_part}
 use Rattle.zone_core.proofs.MetLemmas.{among_of, of_among, any_is, is_any}
@@ -90,8 +89,8 @@ module _ (m n : Past) (name : Labels) (all : Node) (outer : (q : Labels) → tre
       record {
         kept = kept;
         nodes = λ q. entries_put q ∙ by_cases (same_name name q) (cond (same_name name q) all.entries (entries_at m q) ≡ entries (part after (at_name q)))
-        (λ t. rw t (node_is all (part after (at_name name)) order here ∙ ap (λ p. entries (part after (at_name p))) (name_is name q t)))
-        (λ f. rw f (is.nodes q ∙ ap (λ (s : Records). entries s) (sym (same_parts after set (at_name q) (λ k at. same k (ap (same_name name) (name_is k.0 q at) ∙ f))))));
+            (λ t. rw t (node_is all (part after (at_name name)) order here ∙ ap (λ p. entries (part after (at_name p))) (name_is name q t)))
+            (λ f. rw f (is.nodes q ∙ ap (λ (s : Records). entries s) (sym (same_parts after set (at_name q) (λ k at. same k (ap (same_name name) (name_is k.0 q at) ∙ f))))));
       }
 
 -- ---- a record that comes or goes
@@ -219,10 +218,15 @@ with_empty rs = same_sets (with_all empty rs) (set_of rs) (λ k. get-with_all em
     or_none (Some r) = refl
 
 -- the records of a row from a place on, of which the first was put last
-pub put_next : (set : Records) (rs : List Record) (i : ℕ) (r : Record) → i < length rs → r ≡ get_or rs i r → put (with_all set (drop (i + 1) rs)) r ≡ with_all set (drop i rs)
-put_next set rs i r below is =
+from_place : (set : Records) (rs : List Record) (i : ℕ) (r : Record) → i < length rs → r ≡ get_or rs i r → put (with_all set (drop (i + 1) rs)) r ≡ with_all set (drop i rs)
+from_place set rs i r below is =
     let front : drop i rs ≡ get_or rs i r ∷ drop (i + 1) rs = rw add-one (drop-cons rs i r below) in
     with_more set r (drop (i + 1) rs) ∙ ap (with_all set) (sym (front ∙ ap (λ x. x ∷ drop (i + 1) rs) (sym is)))
+
+pub put_next : (set : Records) (rs : List Record) (at : ℕ) (r : Record) → 0 < at → at ≤ length rs → r ≡ get_or rs (at - 1) r → put (with_all set (drop at rs)) r ≡ with_all set (drop (at - 1) rs)
+put_next set rs at r some fits is =
+    let one : at ≡ at - 1 + 1 = omega arith in
+    ap (λ (n : ℕ). put (with_all set (drop n rs)) r) one ∙ from_place set rs (at - 1) r (omega arith) is
 
 pub put_last : (set : Records) (rs : List Record) (i : ℕ) → length rs ≤ i → with_all set (drop i rs) ≡ set
 put_last set rs i past = ap (with_all set) (drop_all i rs past) ∙ with_none set

@@ -1,19 +1,17 @@
 -- An update that may have made a change acts at a name of the change.
-use Rattle.std.proofs.Common.{◌≡◌, ℕ, List, [], ◌∷◌, length, map, Bool, true, false, cond, not, ◌&&◌, ◌||◌, ◌==◌, if◌then◌else◌, Option, Some, None, inl, inr, refl, sym, ap, subst, ◌∙◌}
-use Rattle.std.specs.List.{AllByRecursion, list_any, find}
+use Rattle.std.proofs.Common.{◌≡◌, List, [], ◌∷◌, Bool, true, false, cond, not, ◌&&◌, ◌==◌, if◌then◌else◌, Option, Some, None, inl, inr, refl, sym, ap, subst, ◌∙◌}
+use Rattle.std.specs.List.{AllByRecursion, find}
 use Rattle.std.specs.Option.{option_map_or}
 use Rattle.std.specs.FinMap.{get, len, empty, get-empty, len-empty}
 use Rattle.std.proofs.lemmas.Bool.{false_from_ne_true}
 use Rattle.dns_names.specs.Order.{same_name}
 use Rattle.dns_data.specs.declared.record.Record.{Record}
 use Rattle.dns_data.specs.declared.record_type.RecordType.TheVariants as types
-use Rattle.zone_core.specs.declared.update.Operation.{Operation}
-use Rattle.zone_core.specs.Sets.{Records, Key, key_of, key_cmp, same_key, listing, part, cut, minus, same_ttl, is_same, at, at_name, IsIn}
-use Rattle.zone_core.specs.Zones.{ZoneOf, IsZone, AreKept, serial_at, soa_at}
+use Rattle.zone_core.specs.Sets.{Records, Key, key_of, key_cmp, listing, cut, minus, same_ttl, is_same, at, IsIn}
+use Rattle.zone_core.specs.Zones.{ZoneOf, AreKept, serial_at, soa_at}
 use Rattle.zone_core.specs.Updates.{UpdateOf, IsUpdate}
-use Rattle.zone_core.specs.Effects.{effects, next_version, with_next, serial_advanced, zone_after}
-use Rattle.zone_core.specs.Changes.{ChangeOf, change_between, is_empty}
-use Rattle.zone_core.specs.Parts.{touched}
+use Rattle.zone_core.specs.Effects.{effects, next_version, with_next, zone_after}
+use Rattle.zone_core.specs.Changes.{ChangeOf, is_empty}
 use Rattle.zone_core.proofs.SetLemmas.{by_cases, name_is, name_self, kept_by_put, kept_by_cut, same_sets}
 use Rattle.zone_core.proofs.RowLemmas.{in_has}
 use Rattle.zone_core.proofs.ChangedLemmas.{listed, kept_in_part}
@@ -22,7 +20,6 @@ use Rattle.zone_core.proofs.ChangeLemmas.{effects_away, same_ttl_self}
 use Rattle.zone_core.proofs.ZoneLemmas.{Keys, Heir, keys_of, at_is, soa_is}
 use Rattle.zone_core.proofs.VersionLemmas.{heir_of, home, updates_keep}
 use Rattle.zone_core.proofs.MetLemmas.{Among}
-use Rattle.zone_core.specs.Rebuilt.{AreAllOf}
 use Rattle.zone_tools.specs.Makers.{MayHaveMade}
 use Rattle.zone_tools.specs.Past.{acts_at, elsewhere, touched_name}
 use Rattle.zone_tools.proofs.IdleLemmas.{bare_change}

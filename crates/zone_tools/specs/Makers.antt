@@ -2,7 +2,7 @@
 use Rattle.std.specs.Prelude.{◌≡◌, ◌↔◌, ℕ, List, [], ◌∷◌, ◌++◌, length, false, Some, slice_get}
 use Rattle.std.specs.List.{Contains}
 use Rattle.std.specs.List.Sorted.{IsStrictlyIncreasing}
-use Rattle.zone_core.specs.Sets.{Records, Key, part, listing}
+use Rattle.zone_core.specs.Sets.{Records, part, listing}
 use Rattle.zone_core.specs.Zones.{ZoneOf, IsZone, zone_of}
 use Rattle.zone_core.specs.Updates.{UpdateOf, IsUpdate, ActsWithin, item_names}
 use Rattle.zone_core.specs.Parts.{at_names}

@@ -1,6 +1,6 @@
 //! Which updates may have made each change of a zone.
 
-ghost use Rattle.std.specs.Prelude.{◌≡◌, ◌↔◌, ◌++◌, ◌+◌, [], ◌∷◌, map, IfOk, OnOk, IsTrue, if◌then◌else◌};
+ghost use Rattle.std.specs.Prelude.{◌≡◌, ◌↔◌, ℕ, List, [], ◌∷◌, ◌++◌, ◌<◌, length, slice_index_or, map, reverse, IfOk, OnOk, IsTrue, if◌then◌else◌};
 ghost use Rattle.std.specs.List.{AllByRecursion};
 ghost use Rattle.std.specs.Option.{option_copied};
 ghost use Rattle.dns_names.specs.Order.{same_name};
@@ -141,7 +141,10 @@ fn are_equal(rows: &[Record], others: &[Record]) -> bool
 fn is_same(change: &Change, other: &Change) -> bool
     ensures { IsTrue result ↔ (change_in change.now ≡ change_in other.now) }
 {
-    are_equal(&change.removed, &other.removed) && are_equal(&change.added, &other.added)
+    if !are_equal(&change.removed, &other.removed) {
+        return false;
+    }
+    are_equal(&change.added, &other.added)
 }
 
 /// Whether the prerequisites of an update are met in a zone, and it changes of it what a change does. The only error is out of memory.
@@ -149,7 +152,7 @@ fn makes(alloc: Global, zone: &Zone, update: &Update, change: &Change) -> Result
     requires { ActsWithin zone.now.origin update.now }
     ensures { IfOk result
         (λ made. IsTrue made
-            ↔ (AreMet zone.now.records update.now.prerequisites × (change_between zone.now.records (zone_after zone.now update.now).records ≡ change_in change.now))) }
+        ↔ (AreMet zone.now.records update.now.prerequisites × (change_between zone.now.records (zone_after zone.now update.now).records ≡ change_in change.now))) }
 {
     if holds(zone, update).is_err() {
         return Ok(false);
@@ -176,14 +179,25 @@ fn may_have_made(
         return Ok(false);
     }
     let rows = rows_read(alloc, past, origin, update)?;
-    match Zone::build(alloc, origin.try_copy(alloc)?, rows) {
+    let own = origin.try_copy(alloc)?;
+    match Zone::build(alloc, own, rows) {
         Ok(zone) => makes(alloc, &zone, update, change),
-        Err(ZoneFault::NoMemory) => Err(AllocError),
-        Err(_) => Ok(false),
+        Err(fault) => match fault {
+            ZoneFault::NoMemory => Err(AllocError),
+            _ => Ok(false),
+        },
     }
 }
 
 // ---- all updates and all changes
+
+/// The update of an index.
+fn update_at(updates: &[Update], index: usize) -> &Update
+    requires { index < length updates.now }
+    ensures { result.now ≡ slice_index_or updates.now index result.now }
+{
+    &updates[index]
+}
 
 /// The indexes of the updates that may have made a change of the zone that these records are. The only error is out of memory.
 fn makers_of(
@@ -202,11 +216,21 @@ fn makers_of(
     let mut indexes = Vec::new(alloc);
     let candidates = actors_at(actors, touched_name(origin, change));
     for index in candidates {
-        if may_have_made(alloc, origin, past, &updates[*index], change)? {
+        let update = update_at(updates, *index);
+        let made = may_have_made(alloc, origin, past, update, change)?;
+        if made {
             indexes.push(*index)?;
         }
     }
     Ok(indexes)
+}
+
+/// The lists from the last to the first.
+fn reversed(mut lists: Vec<Vec<usize>>) -> Vec<Vec<usize>>
+    ensures { result.items ≡ reverse lists.items }
+{
+    lists.reverse();
+    lists
 }
 
 /// For each change of a zone the indexes, in ascending order, of those updates that may have made it: each acts within the origin, its
@@ -229,14 +253,15 @@ pub fn makers(
     ensures found { IfOk result
         (λ found. AreMakersOfZones zone.now.origin updates.now (map change_in changes.now) zone.now.records (map (λ indexes. indexes.items) found.items)) }
 {
+    let origin = zone.origin();
     let actors = actors_of(alloc, updates)?;
     let mut past = past_of(alloc, zone.records())?;
     let mut found = Vec::with_capacity(alloc, changes.len())?;
     for at in (0..changes.len()).rev() {
         let change = &changes[at];
         undo(alloc, &mut past, change)?;
-        found.push(makers_of(alloc, zone.origin(), &past, updates, &actors, change)?)?;
+        let indexes = makers_of(alloc, origin, &past, updates, &actors, change)?;
+        found.push(indexes)?;
     }
-    found.reverse();
-    Ok(found)
+    Ok(reversed(found))
 }

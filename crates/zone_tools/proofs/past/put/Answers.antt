@@ -1,4 +1,4 @@
-use Rattle.std.proofs.Common.{[], cond, Option, Some, refl, sym, ap, ◌∙◌, subst}
+use Rattle.std.proofs.Common.{[], cond, Option, Some, refl, ap, ◌∙◌, subst}
 use Rattle.std.specs.Prelude.{IsSome}
 use Rattle.std.specs.Option.{option_map_or}
 use Rattle.std.specs.BTreeMap.{BTreeMap, get, is_at}
@@ -16,7 +16,7 @@ returns-in_ok-insert-in-Some c = λ set is.
     let written = c.get_mut.follows.holds all in
     past_put c.args.past.now (c.get_mut.follows.lender all) c.args.rr.now c.in-Some.node.now all set
     (ap (λ (o : Option (BTreeMap Key Record)). option_map_or (λ (n : BTreeMap Key Record). n.entries) o []) there) (written.3 (subst IsSome there refl)).0 c.insert.ensures.ordered is c.record_type.ensures.record
-    (rw c.of.ensures at (rw c.of-2.ensures at c.in_ok-insert-in-Some.ensures.updates.0))
+    (rw c.of.ensures at (rw c.of-in-Some.ensures at c.in_ok-insert-in-Some.ensures.updates.0))
 
 pub returns-in_ok-insert-in-None-2 : goal.returns-in_ok-insert-in-None-2
 returns-in_ok-insert-in-None-2 c = λ set is.
