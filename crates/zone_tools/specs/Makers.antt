@@ -11,8 +11,8 @@ use Rattle.zone_core.specs.Effects.{zone_after}
 use Rattle.zone_core.specs.Changes.{ChangeOf, change_between, is_empty}
 use Rattle.zone_tools.specs.History.{before, Leads}
 
--- An update may have made a change of a zone: its names are within the origin (RFC 2136 section 3.2), its prerequisites are met in the
--- zone (section 3.2), and what it changes of it (section 3.4) is the change, and something.
+-- An update may have made a change of a zone: its names are within the origin (RFC 2136 sections 3.2 and 3.4.1), its prerequisites are
+-- met in the zone (section 3.2), and what it changes of it (sections 3.4.2 and 3.6) is the change, and something.
 pub record MayHaveMade (zone : ZoneOf) (update : UpdateOf) (change : ChangeOf) : Type 0 where
   pub is_zone : IsZone zone
   pub inside : ActsWithin zone.origin update
@@ -28,14 +28,15 @@ read_by origin update set = part set (at_names origin (item_names update))
 abbrev pub zone_read : List (List ℕ) → Records → UpdateOf → ZoneOf
 zone_read origin set update = zone_of origin (listing (read_by origin update set))
 
--- the indexes of those updates, in ascending order, that may have made a change of the zone that each of them has before it
+-- the indexes, in ascending order, of those updates that may have made a change, each of the zone that is told of it
 pub record AreMakers (zone : UpdateOf → ZoneOf) (updates : List UpdateOf) (change : ChangeOf) (indexes : List ℕ) : Type 0 where
   pub ascending : IsStrictlyIncreasing indexes
   pub exact : (i : ℕ) → Contains indexes i ↔ ((update : UpdateOf) × (slice_get updates i ≡ Some update) × MayHaveMade (zone update) update change)
 
 -- ---- of each change
 
--- of each of some changes, the oldest first, something is so of the records before it, by those after all changes, and of its list
+-- Something holds of each change, the oldest first: of the records before it, of the change itself, and of a list that goes with it. The
+-- set has the records after all changes.
 abbrev pub EachHas : (Records → ChangeOf → List ℕ → Type 0) → List ChangeOf → Records → List (List ℕ) → Type 0
 EachHas P [] set [] = Unit {0}
 EachHas P [] set (is ∷ lists) = ⊥

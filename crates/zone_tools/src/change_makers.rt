@@ -235,11 +235,11 @@ fn reversed(mut lists: Vec<Vec<usize>>) -> Vec<Vec<usize>>
 
 /// For each change of a zone the indexes, in ascending order, of those updates that may have made it: each acts within the origin, its
 /// prerequisites are met in the zone before the change, and it removes and adds there what the change does, the serial counted (RFC 2136
-/// section 3). The changes come with the oldest first. The update that made a change is among these, and an import or a replacement is
-/// of none.
+/// section 3). The changes come with the oldest first. If an update made a change, it is among these; a change that none made, as the
+/// replacement of a zone, may have none.
 ///
-/// It takes the changes back one by one, and tries of the updates those that act at a name of the change, each on what it reads of the
-/// zone. The only error is out of memory.
+/// The changes are undone from the last to the first. Of the updates only those are tried that act at one name of the change, each on
+/// what it reads of the zone, so it takes most where many updates act at one name. The only error is out of memory.
 pub fn makers(
     alloc: Global,
     zone: &Zone,

@@ -29,8 +29,8 @@ pub fn idle_operations_change_nothing()
     ensures part { IdleOperationsNeedTheirPart }
 {}
 
-/// What an update reads of a zone tells whether it may have made a change of it. And the update that made a change of a zone is among those
-/// that are found to may have made it, if that and the changes after it led to the zone as it is.
+/// What an update reads of a zone tells whether it may have made a change of it. And an update that made a change of a zone is among those
+/// that may have made it, as they are found, if that change and those after it led to the zone as it is.
 pub fn makers_are_found()
     ensures part { MakersNeedTheirPart }
     ensures found { MakersAreFound }
