@@ -14,6 +14,7 @@ pub mod SharedLemmas
 pub mod LargeSetLemmas
 pub mod HistoryLemmas
 pub mod PastLemmas
+pub mod GainLemmas
 pub mod TouchLemmas
 pub mod ActorLemmas
 pub mod MakerLemmas

@@ -1,6 +1,6 @@
 -- An update that may have made a change acts at a name of the change.
-use Rattle.std.proofs.Common.{◌≡◌, List, [], ◌∷◌, Bool, true, false, cond, not, ◌&&◌, ◌==◌, if◌then◌else◌, Option, Some, None, inl, inr, refl, sym, ap, subst, ◌∙◌}
-use Rattle.std.specs.List.{AllByRecursion, find}
+use Rattle.std.proofs.Common.{◌≡◌, List, [], ◌∷◌, Bool, true, false, cond, not, ◌&&◌, ◌==◌, if◌then◌else◌, Option, Some, None, is_some, inl, inr, refl, sym, ap, subst, ◌∙◌}
+use Rattle.std.specs.List.{AllByRecursion, list_any, find}
 use Rattle.std.specs.Option.{option_map_or}
 use Rattle.std.specs.FinMap.{get, len, empty, get-empty, len-empty}
 use Rattle.std.proofs.lemmas.Bool.{false_from_ne_true}
@@ -12,7 +12,7 @@ use Rattle.zone_core.specs.Zones.{ZoneOf, AreKept, serial_at, soa_at}
 use Rattle.zone_core.specs.Updates.{UpdateOf, IsUpdate}
 use Rattle.zone_core.specs.Effects.{effects, next_version, with_next, zone_after}
 use Rattle.zone_core.specs.Changes.{ChangeOf, is_empty}
-use Rattle.zone_core.proofs.SetLemmas.{by_cases, name_is, name_self, kept_by_put, kept_by_cut, same_sets}
+use Rattle.zone_core.proofs.SetLemmas.{by_cases, name_is, name_self, kept_by_put, kept_by_cut, same_sets, found_of_part}
 use Rattle.zone_core.proofs.RowLemmas.{in_has}
 use Rattle.zone_core.proofs.ChangedLemmas.{listed, kept_in_part}
 use Rattle.zone_core.proofs.SerialAdvanceLemmas.{get-minus}
@@ -21,7 +21,12 @@ use Rattle.zone_core.proofs.ZoneLemmas.{Keys, Heir, keys_of, at_is, soa_is}
 use Rattle.zone_core.proofs.VersionLemmas.{heir_of, home, updates_keep}
 use Rattle.zone_core.proofs.MetLemmas.{Among}
 use Rattle.zone_tools.specs.Makers.{MayHaveMade}
-use Rattle.zone_tools.specs.Past.{acts_at, elsewhere, touched_name}
+use Rattle.zone_tools.specs.Past.{acts_at, elsewhere, touched_name, new_record, adds_key, lacks}
+use Rattle.zone_tools.specs.History.{has_key}
+use Rattle.zone_tools.proofs.HistoryLemmas.{has_key-some}
+use Rattle.zone_tools.proofs.GainLemmas.{gains}
+use Rattle.zone_core.proofs.OutcomeLemmas.{ttl_turned}
+use Rattle.std.specs.Prelude.{option_and_then}
 use Rattle.zone_tools.proofs.IdleLemmas.{bare_change}
 use Rattle.zone_tools.proofs.PastLemmas.{all_listed}
 
@@ -213,3 +218,56 @@ module _ (zone : ZoneOf) (update : UpdateOf) (change : ChangeOf) (is : IsUpdate 
       by_gone (Some r) p e f none = gone_acted r e none
       by_gone None (Some r) e f none = come_acted r f none
       by_gone None None e f none = origin_acted e f none
+
+  -- a record that comes elsewhere and is new is one that the update adds
+  brought : (r : Record) → elsewhere zone.origin change.added ≡ Some r → has_key change.removed (key_of r) ≡ false → list_any (adds_key (key_of r)) update.operations ≡ true
+  brought r e new = gains zone.origin (key_of r) update.operations before r gone made_here
+    where
+      found : Among r change.added × (not (same_name r.owner zone.origin) ≡ true)
+      found = found_passes (λ x. not (same_name x.owner zone.origin)) change.added r e
+
+      there : Among r (listing (minus after before))
+      there = subst (Among r) comes found.0
+
+      here : IsIn r (minus after before)
+      here = each_is (λ x. IsIn x (minus after before)) (listing (minus after before)) r (all_listed (minus after before) (kept_in_part after (λ k. not (same_ttl (get after k) (get before k))) kept_after)).inside there
+
+      now : get after (key_of r) ≡ Some r
+      now = (found_of_part after (λ k. not (same_ttl (get after k) (get before k))) (key_of r) r here).1
+
+      differ : not (same_ttl (get after (key_of r)) (get before (key_of r))) ≡ true
+      differ = (found_of_part after (λ k. not (same_ttl (get after k) (get before k))) (key_of r) r here).0
+
+      made_here : get made (key_of r) ≡ Some r
+      made_here =
+          by_cases (is_same before made) (get made (key_of r) ≡ Some r) (λ t. absurd (not_same after before r kept_after there (ap (λ (s : Records). get s (key_of r)) (sym (after_same t)))))
+          (λ f. sym (after_made (key_of r) (off_origin r found.1) f) ∙ now)
+
+      turned : (o p : Option Record) → not (same_ttl o p) ≡ true → not (same_ttl p o) ≡ true
+      turned o p t = ap not (ttl_turned p o) ∙ t
+
+      by_old : (o : Option Record) → get before (key_of r) ≡ o → o ≡ None
+      by_old None f = refl
+      by_old (Some s) f =
+          let there_too : get (minus before after) (key_of r) ≡ Some s =
+          get-minus before after (key_of r) ∙ ap (λ b. cond b (get before (key_of r)) None) (turned (get after (key_of r)) (get before (key_of r)) differ) ∙ f in
+          let rows = listed (minus before after) (kept_in_part before (λ k. not (same_ttl (get before k) (get after k))) kept_before) in
+          let listed_too : has_key change.removed (key_of r) ≡ true =
+          ap (λ rs. has_key rs (key_of r)) goes ∙ has_key-some (listing (minus before after)) (key_of r) ∙ ap is_some (ap (λ (w : Records). get w (key_of r)) rows.set ∙ there_too) in
+          let bad : true ≡ false = sym listed_too ∙ new in
+          absurd cc
+
+      gone : get before (key_of r) ≡ None
+      gone = by_old (get before (key_of r)) refl
+
+  -- so an update that may have made the change does not lack it
+  pub never_lacks : lacks (new_record zone.origin change) update.operations ≡ false
+  never_lacks = by_found (elsewhere zone.origin change.added) refl
+    where
+      by_key : (r : Record) → elsewhere zone.origin change.added ≡ Some r → (b : Bool) → has_key change.removed (key_of r) ≡ b → lacks (if b then None else Some r) update.operations ≡ false
+      by_key r e true f = refl
+      by_key r e false f = ap not (brought r e f)
+
+      by_found : (o : Option Record) → elsewhere zone.origin change.added ≡ o → lacks (option_and_then (λ r. if has_key change.removed (key_of r) then None else Some r) o) update.operations ≡ false
+      by_found None e = refl
+      by_found (Some r) e = by_key r e (has_key change.removed (key_of r)) refl

@@ -1,5 +1,5 @@
 -- How the records of a zone before some of its changes are held, and the updates by the names that they act at.
-use Rattle.std.specs.Prelude.{◌≡◌, ℕ, ◌+◌, List, [], ◌∷◌, ◌++◌, map, Bool, not, Option, if◌then◌else◌, Vec}
+use Rattle.std.specs.Prelude.{◌≡◌, ℕ, ◌+◌, List, [], ◌∷◌, ◌++◌, map, Bool, not, Option, Some, None, option_and_then, false, if◌then◌else◌, Vec}
 use Rattle.std.specs.List.{list_any, find}
 use Rattle.std.specs.Option.{option_map_or}
 use Rattle.std.specs.FinMap.{entries, from_entries}
@@ -8,10 +8,12 @@ use Rattle.std.specs.BTreeMap as tree
 use Rattle.dns_names.specs.Order.{canonical_cmp, same_name}
 use Rattle.dns_data.specs.declared.record.Record.{Record}
 use Rattle.zone_core.specs.declared.update.Operation.{Operation}
-use Rattle.zone_core.specs.Sets.{Records, Key, keyed, part, at_name}
+use Rattle.zone_core.specs.declared.update.Operation.TheVariants.{Add}
+use Rattle.zone_core.specs.Sets.{Records, Key, key_of, same_key, keyed, part, at_name}
 use Rattle.zone_core.specs.Zones.{AreKept}
 use Rattle.zone_core.specs.Updates.{UpdateOf, acted_name}
 use Rattle.zone_core.specs.Changes.{ChangeOf}
+use Rattle.zone_tools.specs.History.{has_key}
 
 -- ---- records by their owners
 
@@ -60,3 +62,19 @@ elsewhere origin rs = find (λ r. not (same_name r.owner origin)) rs
 abbrev pub touched_name : List (List ℕ) → ChangeOf → List (List ℕ)
 touched_name origin change =
     option_map_or (λ r. r.owner) (elsewhere origin change.removed) (option_map_or (λ r. r.owner) (elsewhere origin change.added) origin)
+
+-- ---- what a change calls for
+
+-- the first record that comes elsewhere than at the origin, if it is new: none goes that is the same
+abbrev pub new_record : List (List ℕ) → ChangeOf → Option Record
+new_record origin change = option_and_then (λ r. if has_key change.removed (key_of r) then None else Some r) (elsewhere origin change.added)
+
+-- whether an operation adds a record that is the same
+abbrev pub adds_key : Key → Operation → Bool
+adds_key k (Add r) = same_key (key_of r) k
+adds_key k op = false
+
+-- whether no operation adds a record that comes, if there is one
+abbrev pub lacks : Option Record → List Operation → Bool
+lacks None ops = false
+lacks (Some r) ops = not (list_any (adds_key (key_of r)) ops)

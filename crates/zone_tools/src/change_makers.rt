@@ -1,19 +1,20 @@
 //! Which updates may have made each change of a zone.
 
 ghost use Rattle.std.specs.Prelude.{◌≡◌, ◌↔◌, ℕ, List, [], ◌∷◌, ◌++◌, ◌<◌, length, slice_index_or, map, reverse, IfOk, OnOk, IsTrue, if◌then◌else◌};
-ghost use Rattle.std.specs.List.{AllByRecursion};
+ghost use Rattle.std.specs.List.{AllByRecursion, list_any};
 ghost use Rattle.std.specs.Option.{option_copied};
 ghost use Rattle.dns_names.specs.Order.{same_name};
-ghost use Rattle.zone_core.specs.Sets.{Records};
+ghost use Rattle.zone_core.specs.Sets.{Records, key_of};
 ghost use Rattle.zone_core.specs.Updates.{IsUpdate, ActsWithin};
 ghost use Rattle.zone_core.specs.Met.{AreMet};
 ghost use Rattle.zone_core.specs.Effects.{zone_after};
 ghost use Rattle.zone_core.specs.Changes.{change_in, change_between};
+ghost use Rattle.zone_tools.specs.History.{has_key};
 ghost use Rattle.zone_tools.specs.Makers.{MayHaveMade, zone_read, AreMakers, AreMakersByParts, AreMakersOfZones};
-ghost use Rattle.zone_tools.specs.Past.{IsPast, acts_at, actors_at, actors_from, elsewhere, touched_name};
+ghost use Rattle.zone_tools.specs.Past.{IsPast, acts_at, actors_at, actors_from, elsewhere, touched_name, new_record, adds_key, lacks};
 
 use crate::past::{Past, past_of, rows_read, undo};
-use crate::same::is_equal;
+use crate::same::{is_equal, is_same};
 use dns_data::Record;
 use dns_names::Name;
 use std::alloc::{AllocError, Global};
@@ -108,6 +109,51 @@ fn touched_name<'a>(origin: &'a Name, change: &'a Change) -> &'a Name
     }
 }
 
+/// The first record that comes elsewhere than at the origin, if it is new: none goes that is the same.
+fn new_record<'a>(origin: &Name, change: &'a Change) -> Option<&'a Record>
+    ensures { option_copied result ≡ new_record origin.now (change_in change.now) }
+{
+    let record = elsewhere(origin, &change.added)?;
+    if has_key(&change.removed, record) {
+        return None;
+    }
+    Some(record)
+}
+
+/// Whether one of some records is the same as another.
+fn has_key(records: &[Record], rr: &Record) -> bool
+    ensures { result ≡ has_key records.now (key_of rr.now) }
+{
+    records.iter().any(|record| is_same(record, rr))
+}
+
+/// Whether an operation adds a record that is the same.
+fn adds(operation: &Operation, rr: &Record) -> bool
+    ensures { result ≡ adds_key (key_of rr.now) operation.now }
+{
+    match operation {
+        Operation::Add(record) => is_same(record, rr),
+        _ => false,
+    }
+}
+
+/// Whether one of some operations adds a record that is the same.
+fn adds_some(operations: &[Operation], rr: &Record) -> bool
+    ensures { result ≡ list_any (adds_key (key_of rr.now)) operations.now }
+{
+    operations.iter().any(|operation| adds(operation, rr))
+}
+
+/// Whether no operation adds a record that comes, if there is one.
+fn lacks(new: Option<&Record>, operations: &[Operation]) -> bool
+    ensures { result ≡ lacks (option_copied new.entry) operations.now }
+{
+    match new {
+        Some(record) => !adds_some(operations, record),
+        None => false,
+    }
+}
+
 /// The indexes of the updates that act at a name.
 fn actors_at<'a>(actors: &'a Actors, name: &Name) -> &'a [usize]
     ensures { result.now ≡ actors_at actors.now name.now }
@@ -138,7 +184,7 @@ fn are_equal(rows: &[Record], others: &[Record]) -> bool
 }
 
 /// Whether two changes remove and add the same, TTLs counted.
-fn is_same(change: &Change, other: &Change) -> bool
+fn are_same(change: &Change, other: &Change) -> bool
     ensures { IsTrue result ↔ (change_in change.now ≡ change_in other.now) }
 {
     if !are_equal(&change.removed, &other.removed) {
@@ -158,17 +204,20 @@ fn makes(alloc: Global, zone: &Zone, update: &Update, change: &Change) -> Result
         return Ok(false);
     }
     let made = Change::of_update(alloc, zone, update)?;
-    Ok(is_same(&made, change))
+    Ok(are_same(&made, change))
 }
 
-/// Whether an update may have made a change of the zone that the records which it reads are. The only error is out of memory.
+/// Whether an update may have made a change of the zone that the records which it reads are. What is new with the change is told, so that
+/// it is sought once for all updates. The only error is out of memory.
 fn may_have_made(
     alloc: Global,
     origin: &Name,
     past: &Past<'_>,
     update: &Update,
     change: &Change,
+    new: Option<&Record>,
 ) -> Result<bool, AllocError>
+    requires { option_copied new ≡ new_record origin.now (change_in change.now) }
     ensures { (set : Records) → IsPast past.now set
         → IfOk result (λ made. IsTrue made ↔ MayHaveMade (zone_read origin.now set update.now) update.now (change_in change.now)) }
 {
@@ -176,6 +225,10 @@ fn may_have_made(
         return Ok(false);
     }
     if update.outside(origin).is_some() {
+        return Ok(false);
+    }
+    // most updates at a name that has many are told apart by this
+    if lacks(new, update.operations()) {
         return Ok(false);
     }
     let rows = rows_read(alloc, past, origin, update)?;
@@ -215,9 +268,10 @@ fn makers_of(
 {
     let mut indexes = Vec::new(alloc);
     let candidates = actors_at(actors, touched_name(origin, change));
+    let new = new_record(origin, change);
     for index in candidates {
         let update = update_at(updates, *index);
-        let made = may_have_made(alloc, origin, past, update, change)?;
+        let made = may_have_made(alloc, origin, past, update, change, new)?;
         if made {
             indexes.push(*index)?;
         }
@@ -238,8 +292,9 @@ fn reversed(mut lists: Vec<Vec<usize>>) -> Vec<Vec<usize>>
 /// section 3). The changes come with the oldest first. If an update made a change, it is among these; a change that none made, as the
 /// replacement of a zone, may have none.
 ///
-/// The changes are undone from the last to the first. Of the updates only those are tried that act at one name of the change, each on
-/// what it reads of the zone, so it takes most where many updates act at one name. The only error is out of memory.
+/// The changes are undone from the last to the first. Of the updates that act at one name of the change, and that add what comes there if
+/// it is new, each is tried on what it reads of the zone. So it takes most where many updates delete at one name. The only error is out
+/// of memory.
 pub fn makers(
     alloc: Global,
     zone: &Zone,

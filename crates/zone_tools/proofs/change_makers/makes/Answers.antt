@@ -10,5 +10,5 @@ returns-then-is_err c = not_so (λ both. not_met c.holds.result c.holds.ensures.
 pub returns : goal.returns
 returns c =
     let zone = c.args.zone.now in
-    met_makes (change_in c.in_ok-made.made) (change_between zone.records (zone_after zone c.args.update.now).records) (change_in c.args.change.now) c.is_same.result
-    (is_met c.holds.result c.holds.ensures.met (sym c.is_err.ensures.value ∙ c.if-is_err.false)) c.in_ok-made.ensures c.is_same.ensures
+    met_makes (change_in c.in_ok-made.made) (change_between zone.records (zone_after zone c.args.update.now).records) (change_in c.args.change.now) c.are_same.result
+    (is_met c.holds.result c.holds.ensures.met (sym c.is_err.ensures.value ∙ c.if-is_err.false)) c.in_ok-made.ensures c.are_same.ensures

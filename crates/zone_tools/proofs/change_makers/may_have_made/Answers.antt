@@ -8,6 +8,8 @@ use Rattle.zone_core.specs.Changes.{change_in, is_empty}
 use Rattle.zone_core.proofs.ChangedLemmas.{kept_in_part}
 use Rattle.zone_tools.specs.Makers.{read_by, zone_read}
 use Rattle.zone_tools.proofs.MakerLemmas.{not_so, none_is, if_weaker, may_is, read_rows, built_ok, refused_not}
+use Rattle.zone_tools.specs.Past.{lacks}
+use Rattle.zone_tools.proofs.TouchLemmas.{never_lacks}
 use Rattle.zone_tools.proofs.change_makers.may_have_made.Goals as goal
 
 pub returns-then-is_empty : goal.returns-then-is_empty
@@ -15,6 +17,14 @@ returns-then-is_empty c = λ set is. not_so (λ may. let bad : true ≡ false = 
 
 pub returns-then-is_some : goal.returns-then-is_some
 returns-then-is_some c = λ set is. not_so (λ may. let bad : true ≡ false = sym c.if-is_some.true ∙ c.is_some.ensures ∙ ap is_some (c.outside.ensures.inside.1 may.inside) in cc)
+
+pub returns-then-lacks : goal.returns-then-lacks
+returns-then-lacks c = λ set is.
+    not_so (λ may.
+    let never = never_lacks (zone_read c.args.origin.now set c.args.update.now) c.args.update.now (change_in c.args.change.now) c.operations.ensures.update may in
+    let bad : true ≡ false =
+    sym c.if-lacks.true ∙ c.lacks.ensures ∙ (λ i. lacks (c.requires i) (c.operations.ensures.value i)) ∙ never in
+    cc)
 
 pub makes-requires : goal.makes-requires
 makes-requires c =

@@ -1,5 +1,5 @@
 use Rattle.zone_tools.proofs.MakerLemmas.{other_side, both_sides}
-use Rattle.zone_tools.proofs.change_makers.is_same.Goals as goal
+use Rattle.zone_tools.proofs.change_makers.are_same.Goals as goal
 
 pub returns-then-not-are_equal : goal.returns-then-not-are_equal
 returns-then-not-are_equal c =
