@@ -57,7 +57,7 @@ one_soa origin rows of =
           (λ r a. (elim a [ inl same ↦ subst (λ (x : Record). Among x (asked_at rows origin (Kept types.Soa))) (sym same) (asked_owner rows origin types.Soa soa here is.origin is.type) | inr none ↦ absurd none ]));
     }
 
-flat_same : {X Y : Type 0} (f g : X → List Y) (xs : List X) → ((x : X) → Among x xs → f x ≡ g x) → flat_map f xs ≡ flat_map g xs
+pub flat_same : {X Y : Type 0} (f g : X → List Y) (xs : List X) → ((x : X) → Among x xs → f x ≡ g x) → flat_map f xs ≡ flat_map g xs
 flat_same f g [] each = refl
 flat_same f g (x ∷ xs) each = λ i. each x (inl refl) i ++ flat_same f g xs (λ y a. each y (inr a)) i
 

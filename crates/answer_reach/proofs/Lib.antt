@@ -11,3 +11,8 @@ pub mod WildcardLemmas
 pub mod RightsLemmas
 pub mod PlaceLemmas
 pub mod SkippedLemmas
+pub mod DifferLemmas
+pub mod NearLemmas
+pub mod PartLemmas
+pub mod TrialLemmas
+pub mod ExampleLemmas

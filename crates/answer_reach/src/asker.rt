@@ -213,7 +213,7 @@ pub(crate) fn is_there(zone: &Zone, name: &Name) -> bool
 
 impl<'a> Asker<'a> {
     /// Whether a change of the records of a type at a name is granted.
-    fn may(&self, change: Action, name: &Name, record_type: RecordType) -> bool
+    pub(crate) fn may(&self, change: Action, name: &Name, record_type: RecordType) -> bool
         requires { ChangesRecords change }
         ensures { result ≡ may self.now.rights.now.rules self.now.rights.now.caller self.now.index.now.origin change name.now record_type }
     {
@@ -274,7 +274,7 @@ impl<'a> Asker<'a> {
     }
 
     /// Whether it can delete some.
-    fn may_go(&self, name: &Name, record_type: RecordType) -> bool
+    pub(crate) fn may_go(&self, name: &Name, record_type: RecordType) -> bool
         ensures { result ≡ may_go self.now.rights.now.rules self.now.rights.now.caller self.now.index.now.origin (listing self.now.index.now.records) name.now record_type }
     {
         self.may(Action::Delete, name, record_type)

@@ -75,7 +75,7 @@ fn push_targets(alloc: Global, names: &mut Vec<Name>, records: &[Record]) -> Res
 }
 
 /// The names that are asked for in turn, as an answer has them. The only error is out of memory.
-fn asked_in_turn(
+pub(crate) fn asked_in_turn(
     alloc: Global,
     name: &Name,
     asked: QueryType,

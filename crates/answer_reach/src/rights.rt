@@ -132,6 +132,13 @@ impl<'a> Rights<'a> {
         self.caller
     }
 
+    /// The names that have all names within them at which a rule grants the caller some change, in canonical order.
+    pub(crate) fn tops(&self) -> &[Name]
+        ensures { AreTops self.now.rules self.now.caller result.now }
+    {
+        &self.tops
+    }
+
     /// Whether a rule can grant the caller some change at a name: it is at or below that of one that does.
     pub(crate) fn may_grant(&self, name: &Name) -> bool
         ensures { result ≡ may_grant self.now.rules self.now.caller name.now }
