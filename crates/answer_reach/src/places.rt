@@ -12,7 +12,7 @@ use zone_core::Zone;
 /// How many names of aliases are followed at most.
 const ALIASES_MAX: usize = 8;
 
-/// The name `a` below a name, unless it is too long. The only error is out of memory.
+/// The name with a label before another, unless it is too long. The only error is out of memory.
 pub(crate) fn child(alloc: Global, label: &[u8], above: &Name) -> Result<Option<Name>, AllocError> {
     match Name::read_relative(alloc, label, above) {
         Ok(name) => Ok(Some(name)),
@@ -164,7 +164,7 @@ impl<'a> Asker<'a> {
         }
     }
 
-    /// Whether a change at a name may change whether one of some places exists, or is at the origin, the serial of whose SOA each change
+    /// Whether a change at a name may make one of some places exist or not, or the origin is asked for, the serial of whose SOA each change
     /// advances.
     fn makes_exist(&self, places: &Places, name: &Name) -> bool {
         let origin = self.index.zone().origin();

@@ -76,7 +76,7 @@ fn covers_servers(covered: &[Name], authority: &[Record]) -> bool
 }
 
 impl<'a> Asker<'a> {
-    /// Whether an operation is permitted. The deletion of a name, which no example has, counts as none.
+    /// Whether an operation is permitted. The deletion of a name, which no example has, counts as not permitted.
     fn permits(&self, operation: &Operation) -> bool
         ensures { result ≡ permits self.now.rights.now.rules self.now.rights.now.caller self.now.index.now.origin operation.now }
     {
@@ -190,7 +190,7 @@ impl<'a> Asker<'a> {
         }
     }
 
-    /// The same of some names, unless something was missing before. The only error is out of memory.
+    /// The same of some names. The only error is out of memory.
     fn are_whole_at(&self, alloc: Global, trial: &Trial, names: &[Name]) -> Result<bool, AllocError>
         requires { IsTrial self.now.rights.now.rules self.now.rights.now.caller self.now.index.now trial.now }
         ensures { IfOk result (λ b. b ≡ list_all (is_whole_at self.now.index.now trial.now) names.now) }
