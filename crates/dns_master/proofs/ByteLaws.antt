@@ -49,7 +49,7 @@ with_entry_bytes : (white : Bool) (founds : List Found) (es : List Entry) → Ar
 with_entry_bytes white [] es h k = k
 with_entry_bytes white (f ∷ fs) es h k = (h, k)
 
-bound : {X Y : Type 0} (P : X → Type 0) (Q : Y → Type 0) (r : Result X ShapeFault) (f : X → Y) → IfOk r P → ((x : X) → P x → Q (f x)) → IfOk (r >>= λ x. Ok (f x)) Q
+pub bound : {X Y : Type 0} (P : X → Type 0) (Q : Y → Type 0) (r : Result X ShapeFault) (f : X → Y) → IfOk r P → ((x : X) → P x → Q (f x)) → IfOk (r >>= λ x. Ok (f x)) Q
 bound P Q (Ok x) f h k = k x h
 bound P Q (Err e) f h k = tt
 
@@ -73,7 +73,7 @@ unfolding split
 split_bytes open_quote [] d u h = ended_bytes open_quote d u
 split_bytes open_quote (p ∷ ps) d u h = piece_bytes p.piece p.left d u (begins_white ps) (split open_quote ps) h.0 (λ e v. split_bytes open_quote ps e v h.1)
 
-ok_of : {X : Type 0} (P : X → Type 0) (r : Result X ShapeFault) (x : X) → IfOk r P → r ≡ Ok x → P x
+pub ok_of : {X : Type 0} (P : X → Type 0) (r : Result X ShapeFault) (x : X) → IfOk r P → r ≡ Ok x → P x
 ok_of P (Ok y) x h e = let same : y ≡ x = cc in subst P same h
 ok_of P (Err f) x h e = absurd cc
 

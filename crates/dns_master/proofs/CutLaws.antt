@@ -32,7 +32,7 @@ record IsCut (cut : CutEntries) (r : Result Split ShapeFault) : Type 0 where
   first : map text_of found.first ≡ cut.first
   others : map view found.others ≡ cut.others
 
-by_bool : {X : Type 0} (b : Bool) → (b ≡ true → X) → (b ≡ false → X) → X
+pub by_bool : {X : Type 0} (b : Bool) → (b ≡ true → X) → (b ≡ false → X) → X
 by_bool true t f = t refl
 by_bool false t f = f refl
 

@@ -93,7 +93,7 @@ module _ (b : InForce) (s : Statement) (ss : List Statement) where
 
 -- ---- the record of an entry
 
-refused_ok : {A : Type 0} (fault : EntryFault) (o : Option A) (x : A) → or_refused fault o ≡ Ok x → o ≡ Some x
+pub refused_ok : {A : Type 0} (fault : EntryFault) (o : Option A) (x : A) → or_refused fault o ≡ Ok x → o ≡ Some x
 refused_ok fault None x e = absurd cc
 refused_ok fault (Some y) x e = cc
 
@@ -113,7 +113,7 @@ record_again stated b r h =
     ∙ ap (λ (d : Data). Ok ((record { owner = r.owner; ttl = r.ttl; rdata = d }) ∷ [])) (sym h.rdata)
 
 -- a record has an owner
-owner_there : (own owner : Option (List (List ℕ))) (name : List (List ℕ)) → or_else own owner ≡ Some name → HasOwner own owner
+pub owner_there : (own owner : Option (List (List ℕ))) (name : List (List ℕ)) → or_else own owner ≡ Some name → HasOwner own owner
 owner_there None None name e = absurd cc
 owner_there None (Some x) name e = tt
 owner_there (Some x) owner name e = tt

@@ -32,3 +32,10 @@ pub mod TokenLemmas
 pub mod WalkLaws
 pub mod SpanLaws
 pub mod RefusalLaws
+pub mod OtherLemmas
+pub mod PartingLemmas
+pub mod JoinedLaws
+pub mod OtherLaws
+pub mod WholeLaws
+pub mod PartingLaws
+pub mod OtherGrammarLaws

@@ -13,11 +13,11 @@ use Rattle.dns_master.proofs.CleanLaws.{runs_are, CleanAt, Clean}
 
 -- ---- the pieces of lines
 
-abbrev piece_with : Bool → List ℕ → Piece
+abbrev pub piece_with : Bool → List ℕ → Piece
 piece_with true raw = Quoted raw
 piece_with false raw = Plain raw
 
-abbrev item_piece : ItemText → Piece
+abbrev pub item_piece : ItemText → Piece
 item_piece item = piece_with item.quoted item.raw
 
 -- items with a space before each, and a line end
@@ -94,13 +94,13 @@ AreLines (e ∷ es) (line ∷ lines) = (e.white ≡ false) × (map text_of e.ite
 AreLines es lines = ⊥
 
 -- the open entry has these items, and the others those
-record SplitLines (items : List ItemText) (lines : List (List ItemText)) (r : Result Split ShapeFault) : Type 0 where
-  found : Split
-  read : r ≡ Ok found
-  first : map text_of found.first ≡ items
-  others : AreLines found.others lines
+pub record SplitLines (items : List ItemText) (lines : List (List ItemText)) (r : Result Split ShapeFault) : Type 0 where
+  pub found : Split
+  pub read : r ≡ Ok found
+  pub first : map text_of found.first ≡ items
+  pub others : AreLines found.others lines
 
-no_white : (quoted : Bool) (raw : List ℕ) → is_white_piece (piece_with quoted raw) ≡ false
+pub no_white : (quoted : Bool) (raw : List ℕ) → is_white_piece (piece_with quoted raw) ≡ false
 no_white true raw = refl
 no_white false raw = refl
 
@@ -111,11 +111,11 @@ starts (p ∷ ps) (item ∷ items) more some e =
     let same : p.piece ≡ item_piece item = cc in
     ap is_white_piece same ∙ no_white item.quoted item.raw
 
-one_entry : (white : Bool) (founds : List Found) (es : List Entry) (line : List ItemText) (lines : List (List ItemText)) → white ≡ false → 0 < length line → map text_of founds ≡ line → AreLines es lines → AreLines (with_entry white founds es) (line ∷ lines)
+pub one_entry : (white : Bool) (founds : List Found) (es : List Entry) (line : List ItemText) (lines : List (List ItemText)) → white ≡ false → 0 < length line → map text_of founds ≡ line → AreLines es lines → AreLines (with_entry white founds es) (line ∷ lines)
 one_entry white [] es line lines w some e h = absurd (let none = ap length e in omega arith)
 one_entry white (f ∷ fs) es line lines w some e h = (w, e, h)
 
-item_split : (quoted : Bool) (raw : List ℕ) (left d u : ℕ) (white : Bool) (more : ℕ → ℕ → Result Split ShapeFault) (items : List ItemText) (lines : List (List ItemText)) → SplitLines items lines (more d u)
+pub item_split : (quoted : Bool) (raw : List ℕ) (left d u : ℕ) (white : Bool) (more : ℕ → ℕ → Result Split ShapeFault) (items : List ItemText) (lines : List (List ItemText)) → SplitLines items lines (more d u)
     → SplitLines ((record { raw = raw; quoted = quoted }) ∷ items) lines (at_piece (piece_with quoted raw) left d u white more)
 item_split true raw left d u white more items lines h = record {
   found = _;
@@ -131,11 +131,11 @@ item_split false raw left d u white more items lines h = record {
 }
 
 -- a piece that is this one
-as_piece : (p q : Piece) (left u : ℕ) (white : Bool) (more : ℕ → ℕ → Result Split ShapeFault) (items : List ItemText) (lines : List (List ItemText)) → p ≡ q → SplitLines items lines (at_piece q left 0 u white more) → SplitLines items lines (at_piece p left 0 u white more)
+pub as_piece : (p q : Piece) (left u : ℕ) (white : Bool) (more : ℕ → ℕ → Result Split ShapeFault) (items : List ItemText) (lines : List (List ItemText)) → p ≡ q → SplitLines items lines (at_piece q left 0 u white more) → SplitLines items lines (at_piece p left 0 u white more)
 as_piece p q left u white more items lines e h = subst (λ (x : Piece). SplitLines items lines (at_piece x left 0 u white more)) (sym e) h
 
 -- a line end before a line
-line_ends : (left u : ℕ) (white : Bool) (more : ℕ → ℕ → Result Split ShapeFault) (line : List ItemText) (lines : List (List ItemText)) → white ≡ false → 0 < length line → SplitLines line lines (more 0 u)
+pub line_ends : (left u : ℕ) (white : Bool) (more : ℕ → ℕ → Result Split ShapeFault) (line : List ItemText) (lines : List (List ItemText)) → white ≡ false → 0 < length line → SplitLines line lines (more 0 u)
     → SplitLines [] (line ∷ lines) (at_piece LineEnd left 0 u white more)
 line_ends left u white more line lines w some h = record {
   found = end_of white h.found;

@@ -55,7 +55,7 @@ same_case test none c =
     (λ above. let le = ltb-false c 65 above in let here : test c ≡ false = none c (omega arith) in
     cond_both (ltb c 91) (c + 32) c P (λ _. none (c + 32) (omega arith) ∙ sym here) (λ _. refl))
 
-no_digit : (c : ℕ) → 64 < c → is_ascii_digit c ≡ false
+pub no_digit : (c : ℕ) → 64 < c → is_ascii_digit c ≡ false
 no_digit c h = grind (arith, lt-leb c 57)
 
 digit_first : (raw : List ℕ) → begins_with_digit (str_to_ascii_lowercase raw) ≡ begins_with_digit raw
@@ -119,11 +119,11 @@ type_no_class = none_passes (λ t. is_class (type_text t)) refl
 class_by_case : (a b : List ℕ) → str_to_ascii_lowercase a ≡ str_to_ascii_lowercase b → is_class a ≡ is_class b
 class_by_case a b e = rw e refl
 
-neither : (a b : Bool) → (a || b) ≡ false → (a ≡ false) × (b ≡ false)
+pub neither : (a b : Bool) → (a || b) ≡ false → (a ≡ false) × (b ≡ false)
 neither true b e = absurd cc
 neither false b e = (refl, e)
 
-and_none : (a b : Bool) → b ≡ false → (a && b) ≡ false
+pub and_none : (a b : Bool) → b ≡ false → (a && b) ≡ false
 and_none true b e = e
 and_none false b e = refl
 
@@ -193,20 +193,20 @@ Follow None true None lead = lead ≡ []
 Follow None true (Some ttl) lead = (raw : List ℕ) × (lead ≡ plain raw ∷ []) × SpellsTtl ttl raw
 Follow None false ttl lead = AreTtlAndClass ttl lead
 
-follow_none : (own : Option ℕ) (class : Bool) → Follow own class own []
+pub follow_none : (own : Option ℕ) (class : Bool) → Follow own class own []
 follow_none (Some own) true = (refl, refl)
 follow_none (Some own) false = (inl refl, refl)
 follow_none None true = refl
 follow_none None false = inl refl
 
-follow_ttl : (class : Bool) (own : ℕ) (raw : List ℕ) (ttl : Option ℕ) (lead : List ItemText) → SpellsTtl own raw → Follow (Some own) class ttl lead → Follow None class ttl (plain raw ∷ lead)
+pub follow_ttl : (class : Bool) (own : ℕ) (raw : List ℕ) (ttl : Option ℕ) (lead : List ItemText) → SpellsTtl own raw → Follow (Some own) class ttl lead → Follow None class ttl (plain raw ∷ lead)
 follow_ttl true own raw ttl lead h f = subst (λ (o : Option ℕ). Follow None true o (plain raw ∷ lead)) (sym f.1) (raw, ap (λ (l : List ItemText). plain raw ∷ l) f.0, h)
 follow_ttl false own raw ttl lead h f = subst (λ (o : Option ℕ). Follow None false o (plain raw ∷ lead)) (sym f.1) ([], lead, raw, refl, h, inr (refl, f.0))
 
 one_class : (raw : List ℕ) (lead : List ItemText) → IsWord (codes "IN") raw → lead ≡ [] → IsClassOrNone (plain raw ∷ lead)
 one_class raw lead h e = inr (raw, ap (λ (l : List ItemText). plain raw ∷ l) e, h)
 
-follow_class : (own ttl : Option ℕ) (raw : List ℕ) (lead : List ItemText) → IsWord (codes "IN") raw → Follow own true ttl lead → Follow own false ttl (plain raw ∷ lead)
+pub follow_class : (own ttl : Option ℕ) (raw : List ℕ) (lead : List ItemText) → IsWord (codes "IN") raw → Follow own true ttl lead → Follow own false ttl (plain raw ∷ lead)
 follow_class (Some own) ttl raw lead h f = (one_class raw lead h f.0, f.1)
 follow_class None None raw lead h f = one_class raw lead h f
 follow_class None (Some ttl) raw lead h f = (plain raw ∷ [], [], f.0, ap (λ (l : List ItemText). plain raw ∷ l) f.1, f.2, inl (one_class raw [] h refl, refl))

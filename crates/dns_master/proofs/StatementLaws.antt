@@ -30,7 +30,7 @@ use Rattle.dns_master.proofs.PartLaws.{step_ok, unquoted_is, same_case, same_wor
 abbrev Labels : Type 0
 Labels = List (List ℕ)
 
-datas_ok : {A : Type 0} (r : Result A DataFault) (x : A) → of_datas r ≡ Ok x → r ≡ Ok x
+pub datas_ok : {A : Type 0} (r : Result A DataFault) (x : A) → of_datas r ≡ Ok x → r ≡ Ok x
 datas_ok (Ok y) x e = cc
 datas_ok (Err f) x e = absurd cc
 
@@ -50,7 +50,7 @@ none_more : (items : List ItemText) → (done : Unit {0}) → no_more items ≡ 
 none_more [] done e = refl
 none_more (item ∷ items) done e = absurd cc
 
-ok_same : {A : Type 0} (x y : A) → ◌≡◌ {A = Result A EntryFault} (Ok x) (Ok y) → y ≡ x
+pub ok_same : {A : Type 0} (x y : A) → ◌≡◌ {A = Result A EntryFault} (Ok x) (Ok y) → y ≡ x
 ok_same x y e = cc
 
 -- ---- directives
@@ -93,7 +93,7 @@ pub record OwnerRead (origin : Labels) (owner : Option Labels) (white : Bool) (i
   pub states : StatesOwner origin white own front
   pub bytes : AreBytes (behind_owner white items)
 
-owner_found : (origin : Labels) (owner : Option Labels) (white : Bool) (items : List ItemText) (own : Option Labels) → IsName origin → AreBytes items → owner_of origin owner white items ≡ Ok own → OwnerRead origin owner white items own
+pub owner_found : (origin : Labels) (owner : Option Labels) (white : Bool) (items : List ItemText) (own : Option Labels) → IsName origin → AreBytes items → owner_of origin owner white items ≡ Ok own → OwnerRead origin owner white items own
 owner_found origin None true items own is bytes e = absurd cc
 owner_found origin (Some owner) true items own is bytes e =
     let here : OwnerRead origin (Some owner) true items None = record { front = []; items_are = refl; states = refl; bytes = bytes } in

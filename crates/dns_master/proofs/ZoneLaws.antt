@@ -64,13 +64,13 @@ origin_items origin = plain (codes "$ORIGIN") ∷ plain (name_text origin) ∷ [
 pub origin_said : (handed origin : List (List ℕ)) → IsName origin → States handed false (origin_items origin) (statements.Origin origin)
 origin_said handed origin is = (codes "$ORIGIN", name_text origin, refl, refl, (is, inl (text_spells origin is)))
 
-abbrev stated_of : Record → StatedRecord
+abbrev pub stated_of : Record → StatedRecord
 stated_of r = record { owner = Some r.owner; ttl = Some r.ttl; rdata = r.rdata }
 
-abbrev said : Record → Statement
+abbrev pub said : Record → Statement
 said r = statements.Record (stated_of r)
 
-record_said : (origin : List (List ℕ)) (r : Record) → IsRecord r → States origin false (record_items r) (said r)
+pub record_said : (origin : List (List ℕ)) (r : Record) → IsRecord r → States origin false (record_items r) (said r)
 record_said origin r is =
     let ttl = is.ttl in
     let small : r.ttl < 2 ^ 64 = omega arith in (
@@ -93,7 +93,7 @@ record_said origin r is =
       },
     )
 
-record_clean : (r : Record) → IsRecord r → CleanLine (record_items r)
+pub record_clean : (r : Record) → IsRecord r → CleanLine (record_items r)
 record_clean r is =
     let ttl = is.ttl in
     let small : r.ttl < 2 ^ 64 = omega arith in

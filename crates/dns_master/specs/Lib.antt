@@ -21,3 +21,9 @@ pub mod EntryTexts
 pub mod EntryGrammar
 pub mod FileGrammar
 pub mod ZoneText
+pub mod OtherTypes
+pub mod Joined
+pub mod AnyRecords
+pub mod OtherGrammar
+pub mod Parting
+pub mod PartViews

@@ -59,14 +59,14 @@ fn begins_with_digit(raw: &[u8]) -> bool
 }
 
 /// Whether octets name the class IN, in either letter case (RFC 1035 section 3.2.4).
-fn is_class_in(raw: &[u8]) -> bool
+pub(crate) fn is_class_in(raw: &[u8]) -> bool
     ensures { result ≡ str_eq_ignore_ascii_case raw.now (codes "IN") }
 {
     raw.eq_ignore_ascii_case(b"IN")
 }
 
 /// Whether octets name another class, in either letter case (RFC 1035 section 3.2.4).
-fn is_other_class(raw: &[u8]) -> bool
+pub(crate) fn is_other_class(raw: &[u8]) -> bool
     ensures { result ≡ is_other_class raw.now }
 {
     raw.eq_ignore_ascii_case(b"CH")
@@ -94,7 +94,7 @@ pub(crate) enum Part {
 }
 
 /// What the next item is.
-fn next_part(read: TtlAndClass, item: Item) -> Result<Part, EntryFault>
+pub(crate) fn next_part(read: TtlAndClass, item: Item) -> Result<Part, EntryFault>
     ensures { Tells (λ part. part) result (part_of read (item_of item.entry)) }
 {
     let raw = unquoted(item)?;

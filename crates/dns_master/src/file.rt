@@ -24,11 +24,11 @@ use dns_names::Name;
 use std::alloc::{AllocError, Global};
 
 /// The most octets of a master file.
-const FILE_MAX: usize = 4_194_304;
+pub(crate) const FILE_MAX: usize = 4_194_304;
 
 /// Why a text has no records, while it is read. The numbers say how many octets are left from the place on.
 #[derive(Clone, Copy)]
-enum FileFault {
+pub(crate) enum FileFault {
     /// Its parentheses or quotes are wrong.
     Shape(ShapeFault),
     /// An entry is wrong, whose first item has so many octets left from it on.
@@ -37,7 +37,7 @@ enum FileFault {
 
 impl FileFault {
     /// The fault with its line in place of the octets that are left of the text.
-    fn on_line(self, text: &[u8]) -> MasterFault
+    pub(crate) fn on_line(self, text: &[u8]) -> MasterFault
         ensures { result ≡ file_fault_on_line text.now self }
     {
         match self {
@@ -90,13 +90,13 @@ fn minimum_in(rdata: &Data) -> Option<u32>
 
 /// The records that were read, and what is in force after them. The owner in force is that of the last of them.
 #[derive(Drop)]
-struct FileRead {
-    origin: Name,
+pub(crate) struct FileRead {
+    pub origin: Name,
     default_ttl: Option<Ttl>,
     stated_ttl: Option<Ttl>,
     /// The MINIMUM of the last SOA, in seconds.
     minimum: Option<u32>,
-    records: Vec<Record>,
+    pub records: Vec<Record>,
 }
 
 impl FileRead {
@@ -104,7 +104,7 @@ impl FileRead {
     ghost use Rattle.dns_master.specs.Files.{taken};
 
     /// Before the first entry, where this origin is handed in.
-    fn new(alloc: Global, origin: &Name) -> Result<FileRead, AllocError>
+    pub(crate) fn new(alloc: Global, origin: &Name) -> Result<FileRead, AllocError>
         ensures { IfOk result (λ file. (force_of file ≡ handed_in origin.now) × (file.records.items ≡ [])) }
     {
         Ok(FileRead {
@@ -117,7 +117,7 @@ impl FileRead {
     }
 
     /// The owner in force.
-    fn owner(&self) -> Option<&Name>
+    pub(crate) fn owner(&self) -> Option<&Name>
         ensures { option_copied result ≡ last_owner self.now.records.items }
     {
         match self.records.last() {
@@ -186,7 +186,7 @@ impl FileRead {
     }
 
     /// Takes what an entry states.
-    fn take(&mut self, alloc: Global, statement: Statement) -> Result<(), EntryFault>
+    pub(crate) fn take(&mut self, alloc: Global, statement: Statement) -> Result<(), EntryFault>
         ensures { TakesStatement self.old self.new statement result }
     {
         match statement {
@@ -243,7 +243,7 @@ impl FileRead {
 }
 
 /// Whether a text begins with white space.
-fn begins_white(text: &[u8]) -> bool
+pub(crate) fn begins_white(text: &[u8]) -> bool
     ensures { result ≡ white_first text.now }
 {
     match text {
@@ -253,7 +253,7 @@ fn begins_white(text: &[u8]) -> bool
 }
 
 /// The fault of an entry that is refused, unless parentheses or quotes are wrong in the text after it.
-fn fault_before<'a>(
+pub(crate) fn fault_before<'a>(
     rest: &'a [u8],
     items: &mut Vec<Item<'a>>,
     left: usize,

@@ -10,6 +10,11 @@ mod file;
 mod laws;
 mod line;
 mod master_fault;
+mod other;
+mod other_type;
+mod part_laws;
+mod part_lines;
+mod parting;
 mod reader;
 mod scan;
 mod shape;
@@ -24,5 +29,9 @@ pub use laws::{
     printed_is_read,
 };
 pub use master_fault::MasterFault;
+pub use part_laws::{
+    kept_part_is_read, others_are_stated, parts_are_apart, parts_are_read, stated_others_are_read,
+};
+pub use parting::{FilePart, part_of_file};
 pub use token::{Token, tokens};
 pub use zone_text::{print_records, print_relative_zone, print_zone};

@@ -110,7 +110,7 @@ fn read_directive(
 }
 
 /// The owner that a record states: none where it begins with white space, and then one must be in force.
-fn read_owner(
+pub(crate) fn read_owner(
     alloc: Global,
     entry: EntryItems,
     origin: &Name,
@@ -131,7 +131,7 @@ fn read_owner(
 }
 
 /// The items after the owner.
-fn behind_owner<'a>(entry: EntryItems<'a>) -> &'a [Item<'a>]
+pub(crate) fn behind_owner<'a>(entry: EntryItems<'a>) -> &'a [Item<'a>]
     ensures { map item_of result.now ≡ behind_owner entry.entry.white (map item_of entry.entry.items.now) }
 {
     match entry.items {

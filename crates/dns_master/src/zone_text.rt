@@ -41,7 +41,7 @@ fn drain<W: Sink>(writer: &mut W, text: &mut String) -> Result<(), MasterFault>
 }
 
 /// The line of the origin. The only error is out of memory.
-fn origin_head(alloc: Global, origin: &Name) -> Result<String, AllocError>
+pub(crate) fn origin_head(alloc: Global, origin: &Name) -> Result<String, AllocError>
     ensures { IfOk result (λ text. string_bytes text ≡ origin_line origin.now) }
 {
     format!(in alloc; "$ORIGIN {origin}\n")
