@@ -50,7 +50,7 @@ impl Command<'_> {
         reading: Manner,
         writing: Manner,
     ) -> Result<Printed, AllocError> {
-        let words = self.words;
+        let (words, form) = (self.words, form_of(self.name));
         match self.name {
             "apply" => self.run_task(alloc, Apply, reading, writing),
             "canon" => self.run_task(alloc, canon(words, ZoneForm::Whole), reading, writing),
@@ -59,34 +59,19 @@ impl Command<'_> {
             }
             "request" => self.run_task(alloc, Request { id: words }, reading, writing),
             "split" => self.run_task(alloc, Split { id: words }, reading, writing),
-            "rights" => self.run_task(alloc, question(words, TextForm::Plain), reading, writing),
-            "rights-json" => self.run_task(
-                alloc,
-                question(words, TextForm::Json),
-                reading,
-                writing,
-            ),
-            "answer" => {
-                self.run_task(alloc, question_in(words, TextForm::Plain), reading, writing)
+            "rights" | "rights-json" => {
+                self.run_task(alloc, question(words, form), reading, writing)
             }
-            "answer-json" => {
-                self.run_task(alloc, question_in(words, TextForm::Json), reading, writing)
+            "answer" | "answer-json" => {
+                self.run_task(alloc, question_in(words, form), reading, writing)
             }
             "explain" => self.run_task(alloc, asked(words), reading, writing),
             "check" | "check-json" => self.run_check(alloc, Subject::Rules, reading, writing),
             "reverse" => self.run_check(alloc, Subject::Reverse(words), reading, writing),
-            "build" => self.run_check(
-                alloc,
-                Subject::Printed(PolicySource::Groups, zones_in(words)),
-                reading,
-                writing,
-            ),
-            "print" => self.run_check(
-                alloc,
-                Subject::Printed(PolicySource::Rules, zones_in(words)),
-                reading,
-                writing,
-            ),
+            "build" => {
+                self.run_check(alloc, made(PolicySource::Groups, words), reading, writing)
+            }
+            "print" => { self.run_check(alloc, made(PolicySource::Rules, words), reading, writing) }
             "isolation" | "isolation-json" => {
                 self.run_check(alloc, Subject::Isolation(words), reading, writing)
             }
@@ -171,6 +156,11 @@ impl Trial for Checks<'_> {
     ) -> Result<Findings, JobFault> {
         do_check(alloc, self.0, first, writer)
     }
+}
+
+/// A policy of the zones of words.
+fn made(source: PolicySource, words: &str) -> Subject<'_> {
+    Subject::Printed(source, zones_in(words))
 }
 
 fn no_command(alloc: Global) -> Result<Printed, AllocError> {
