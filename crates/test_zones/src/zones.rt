@@ -12,7 +12,7 @@ mod updates;
 use crate::refusal::Refusal;
 use crate::zones::delegations::{push_count, push_delegation, push_report};
 use crate::zones::differences::push_difference;
-use crate::zones::history::{push_before, push_bringers};
+use crate::zones::history::{push_before, push_bringers, push_makers};
 use crate::zones::lines::{push, push_name, push_number, push_records};
 use crate::zones::parsed_rows::{file, name, record_type};
 use crate::zones::serials::{push_less, push_sum};
@@ -88,6 +88,7 @@ fn answer_of_zone(
         "large" => push_large(alloc, zone, &row.text, answer),
         "before" => push_before(alloc, zone, &row.body, answer),
         "bringers" => push_bringers(alloc, zone, &row.body, answer),
+        "makers" => push_makers(alloc, zone, &row.body, answer),
         "holds" | "change" | "after" | "serial-after" => {
             push_with_update(alloc, zone, row, answer)
         }

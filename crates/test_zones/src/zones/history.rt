@@ -2,13 +2,13 @@
 
 use crate::refusal::Refusal;
 use crate::zones::lines::{push, push_records};
-use crate::zones::parsed_rows::file;
+use crate::zones::parsed_rows::{file, update};
 use dns_data::{Record, record_line};
 use dns_names::Name;
 use std::alloc::Global;
 use test_rows::text_of;
-use zone_core::{Change, Zone};
-use zone_tools::{bringers, records_before};
+use zone_core::{Change, Update, Zone};
+use zone_tools::{bringers, makers, records_before};
 
 /// The records of the lines of a text that begin with a mark, after it.
 fn marked(alloc: Global, text: &str, mark: &str, origin: &Name) -> Result<Vec<Record>, Refusal> {
@@ -74,5 +74,40 @@ fn push_brought(
     let number = bringer.unwrap_or(0);
     push(format!(in alloc; "{number} ")?.as_str(), answer)?;
     push(record_line(alloc, record)?.as_str(), answer)?;
+    push("\n", answer)
+}
+
+/// The updates of a text, with a line `--` between two.
+fn updates(alloc: Global, text: &str) -> Result<Vec<Update>, Refusal> {
+    let mut updates = Vec::new(alloc);
+    for part in text.split("--\n") {
+        updates.push(update(alloc, part.as_bytes())?)?;
+    }
+    Ok(updates)
+}
+
+/// Appends a line for each change of a text, with the indexes of the updates that may have made it. The updates are those after a line
+/// `by`.
+pub fn push_makers(
+    alloc: Global,
+    zone: &Zone,
+    text: &[u8],
+    answer: &mut Vec<u8>,
+) -> Result<(), Refusal> {
+    let text = text_of(text);
+    let (first, rest) = text.split_once("by\n").unwrap_or((text, ""));
+    let changes = changes(alloc, first.as_bytes(), zone.origin())?;
+    let updates = updates(alloc, rest)?;
+    for indexes in &makers(alloc, zone, &changes, &updates)? {
+        push_indexes(alloc, indexes, answer)?;
+    }
+    Ok(())
+}
+
+fn push_indexes(alloc: Global, indexes: &[usize], answer: &mut Vec<u8>) -> Result<(), Refusal> {
+    push("by", answer)?;
+    for index in indexes {
+        push(format!(in alloc; " {index}")?.as_str(), answer)?;
+    }
     push("\n", answer)
 }
