@@ -48,6 +48,7 @@ argument_row argument.Not = (codes "not", Optional)
 argument_row argument.Server = (codes "server", Optional)
 argument_row argument.Most = (codes "most", Number)
 argument_row argument.Warn = (codes "warn", Flag)
+argument_row argument.Example = (codes "example", Flag)
 argument_row argument.Source = (codes "source", Place)
 argument_row argument.SourceFile = (codes "file", OptionalPlace)
 argument_row argument.Slice = (codes "slice", Optional)
@@ -60,6 +61,9 @@ argument_row argument.Old = (codes "old", Place)
 argument_row argument.New = (codes "new", Place)
 argument_row argument.Id = (codes "id", Optional)
 argument_row argument.Split = (codes "split", Optional)
+argument_row argument.Rest = (codes "rest", Flag)
+argument_row argument.Signer = (codes "signer", Flag)
+argument_row argument.Receipts = (codes "receipts", Flag)
 argument_row argument.From = (codes "from", Number)
 argument_row argument.Within = (codes "name", Optional)
 argument_row argument.Asker = (codes "caller", Optional)
@@ -85,7 +89,7 @@ command_row command.Import = (codes "import", argument.Store ∷ argument.Import
 command_row command.Export = (codes "export", argument.Store ∷ argument.Origin ∷ argument.At ∷ argument.Relative ∷ [])
 command_row command.Zones = (codes "zones", argument.Store ∷ [])
 command_row command.Log = (codes "log", argument.Store ∷ argument.Origin ∷ argument.From ∷ argument.Within ∷ argument.Asker ∷ argument.Json ∷ [])
-command_row command.Blame = (codes "blame", argument.Store ∷ argument.Origin ∷ argument.Within ∷ [])
+command_row command.Blame = (codes "blame", argument.Store ∷ argument.Origin ∷ argument.Within ∷ argument.Receipts ∷ [])
 command_row command.Undo = (codes "undo", argument.Store ∷ argument.Origin ∷ argument.Changed ∷ argument.To ∷ [])
 command_row command.Migrate = (codes "migrate", argument.Store ∷ [])
 command_row command.Remove = (codes "remove", argument.Store ∷ argument.Origin ∷ [])
@@ -95,10 +99,11 @@ command_row command.Plan = (codes "plan", argument.Policy ∷ argument.Caller �
 command_row command.Serve =
     (codes "serve", argument.Store ∷ argument.Policy ∷ argument.Listen ∷ argument.Connections ∷ argument.Patience ∷ argument.Longest ∷ argument.Memory ∷ [])
 command_row command.Check =
-    (codes "check", argument.Subject ∷ argument.CheckedName ∷ argument.CheckedPolicy ∷ argument.Against ∷ argument.Zones ∷ argument.Reader ∷ argument.Isolated ∷ argument.CheckedOrigin ∷ argument.Only ∷ argument.Not ∷ argument.Server ∷ argument.Most ∷ argument.Warn ∷ argument.Json ∷ [])
+    (codes "check", argument.Subject ∷ argument.CheckedName ∷ argument.CheckedPolicy ∷ argument.Against ∷ argument.Zones ∷ argument.Reader ∷ argument.Isolated ∷ argument.CheckedOrigin ∷ argument.Only ∷ argument.Not ∷ argument.Server ∷ argument.Most ∷ argument.Warn ∷ argument.Example ∷ argument.Json ∷ [])
 command_row command.Policy = (codes "policy", argument.Source ∷ argument.SourceFile ∷ argument.Slice ∷ [])
 command_row command.Answer = (codes "answer", argument.Origin ∷ argument.File ∷ argument.AskedName ∷ argument.AskedType ∷ argument.Json ∷ [])
 command_row command.Reverse = (codes "reverse", argument.Origin ∷ argument.File ∷ [])
+command_row command.Split = (codes "split", argument.Origin ∷ argument.Rest ∷ argument.Signer ∷ argument.File ∷ [])
 command_row command.Explain = (codes "explain", argument.Number ∷ argument.Json ∷ [])
 
 abbrev pub command_word : Command → Text
@@ -111,7 +116,7 @@ abbrev pub all_commands : List Command
 all_commands =
     command.Apply ∷ command.Canon ∷ command.Diff ∷ command.Request ∷ command.Import ∷ command.Export ∷ command.Zones ∷ command.Log ∷ command.Blame
     ∷ command.Undo ∷ command.Migrate ∷ command.Remove ∷ command.Rights ∷ command.Plan ∷ command.Serve ∷ command.Check ∷ command.Policy ∷ command.Answer
-    ∷ command.Reverse ∷ command.Explain ∷ []
+    ∷ command.Reverse ∷ command.Split ∷ command.Explain ∷ []
 
 -- the command that a word names
 abbrev pub command_of : Text → Option Command

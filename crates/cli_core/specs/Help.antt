@@ -29,6 +29,7 @@ command_about command.Check = codes "Checks a policy, the isolation of a caller,
 command_about command.Policy = codes "Prints a policy: made from groups and templates, or only the rules that matter in some zones"
 command_about command.Answer = codes "Prints what a server answers from a zone"
 command_about command.Reverse = codes "Prints the PTR records that addresses call for"
+command_about command.Split = codes "Prints what the office keeps of a master file of any types, or the rest"
 command_about command.Explain = codes "Says what the number of a refusal means"
 
 -- how it is used
@@ -52,6 +53,7 @@ command_example command.Check = codes "Example: zoneoffice check policy --policy
 command_example command.Policy = codes "Example: zoneoffice policy build groups.toml > policy.toml"
 command_example command.Answer = codes "Example: zoneoffice answer --origin example.org. zone.txt www.example.org. A"
 command_example command.Reverse = codes "Example: zoneoffice reverse --origin 2.0.192.in-addr.arpa. zone.txt"
+command_example command.Split = codes "Example: zoneoffice split --rest --origin example.org. zone.txt"
 command_example command.Explain = codes "Example: zoneoffice explain 29.19.1"
 
 -- ---- the help of the program

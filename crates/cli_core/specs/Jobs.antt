@@ -1,6 +1,8 @@
 -- The jobs: what each command has for its arguments.
 use Rattle.std.specs.Prelude.{Bool, true, false, List, [], ◌∷◌, Option, Some, None, option_map, codes}
 use Rattle.clap.specs.Words.{Text}
+use Rattle.dns_master.specs.declared.parting.FilePart.{FilePart}
+use Rattle.dns_master.specs.declared.parting.FilePart.TheVariants as part
 use Rattle.cli_core.specs.Values.{Given, text, number, flag, given}
 use Rattle.cli_core.specs.declared.argument.Argument.TheVariants as argument
 use Rattle.cli_core.specs.declared.commands.Command.{Command}
@@ -11,8 +13,12 @@ use Rattle.cli_core.specs.declared.commands.check.CheckSubject.TheVariants as ch
 use Rattle.cli_core.specs.declared.commands.policy.PolicySource.{PolicySource}
 use Rattle.cli_core.specs.declared.commands.policy.PolicySource.TheVariants.{Groups, Rules}
 use Rattle.cli_core.specs.declared.commands.policy.PolicyText.{PolicyText}
+use Rattle.cli_core.specs.declared.job.BlameForm.{BlameForm}
+use Rattle.cli_core.specs.declared.job.BlameForm.TheVariants as blame
 use Rattle.cli_core.specs.declared.job.Existing.{Existing}
 use Rattle.cli_core.specs.declared.job.Existing.TheVariants.{Kept, Replaced}
+use Rattle.cli_core.specs.declared.job.ReachForm.{ReachForm}
+use Rattle.cli_core.specs.declared.job.ReachForm.TheVariants as reach
 use Rattle.cli_core.specs.declared.job.TextForm.{TextForm}
 use Rattle.cli_core.specs.declared.job.TextForm.TheVariants.{Plain, Json}
 use Rattle.cli_core.specs.declared.job.DiffContent.{DiffContent}
@@ -104,6 +110,33 @@ abbrev pub is_json : TextForm → Bool
 is_json Plain = false
 is_json Json = true
 
+-- examples are asked for
+abbrev pub has_examples : ReachForm → Bool
+has_examples reach.Groups = false
+has_examples reach.Examples = true
+
+-- receipts are asked for
+abbrev pub has_receipts : BlameForm → Bool
+has_receipts blame.Changes = false
+has_receipts blame.Receipts = true
+
+abbrev pub is_rest : FilePart → Bool
+is_rest part.Kept = false
+is_rest part.Signer = false
+is_rest part.Rest = true
+
+abbrev pub is_of_signer : FilePart → Bool
+is_of_signer part.Kept = false
+is_of_signer part.Signer = true
+is_of_signer part.Rest = false
+
+-- the part that two flags ask for, of which one is given at most
+abbrev pub part_by : Bool → Bool → Option FilePart
+part_by false false = Some part.Kept
+part_by true false = Some part.Rest
+part_by false true = Some part.Signer
+part_by true true = None
+
 abbrev pub is_replaced : Existing → Bool
 is_replaced Kept = false
 is_replaced Replaced = true
@@ -149,10 +182,10 @@ check_job (check.Rights policy name) gs =
     (command.Check, subject (codes "rights") ∷ (argument.CheckedName, text (option_map (λ n. n.now) name)) ∷ (argument.CheckedPolicy, given policy.now) ∷ gs)
 check_job (check.Expect policy file) gs =
     (command.Check, subject (codes "expect") ∷ (argument.CheckedName, text (option_map (λ f. f.now) file)) ∷ (argument.CheckedPolicy, given policy.now) ∷ gs)
-check_job (check.Reach policy caller origin file) gs = (
+check_job (check.Reach policy caller origin file form) gs = (
   command.Check,
   subject (codes "reach") ∷ (argument.CheckedName, text (option_map (λ f. f.now) file)) ∷ (argument.CheckedPolicy, given policy.now)
-      ∷ (argument.Isolated, given caller.now) ∷ (argument.CheckedOrigin, given origin.now) ∷ gs,
+      ∷ (argument.Isolated, given caller.now) ∷ (argument.CheckedOrigin, given origin.now) ∷ (argument.Example, flag (has_examples form)) ∷ gs,
 )
 check_job (check.Zone origin rules) gs =
     (command.Check, subject (codes "zone") ∷ (argument.CheckedOrigin, given origin.now) ∷ choice_values rules.choice (further_values rules gs))
@@ -199,6 +232,10 @@ asks_text (text_job.Answer w) = (
       ∷ (argument.AskedType, text (option_map (λ t. t.now) w.asked)) ∷ (argument.Json, flag (is_json w.form)) ∷ [],
 )
 asks_text (text_job.Reverse w) = (command.Reverse, (argument.Origin, given w.origin.now) ∷ (argument.File, given w.file.now) ∷ [])
+asks_text (text_job.Split w) = (
+  command.Split,
+  (argument.Origin, given w.origin.now) ∷ (argument.Rest, flag (is_rest w.part)) ∷ (argument.Signer, flag (is_of_signer w.part)) ∷ (argument.File, given w.file.now) ∷ [],
+)
 asks_text (text_job.Explain w) =
     (command.Explain, (argument.Number, text (option_map (λ n. n.now) w.number)) ∷ (argument.Json, flag (is_json w.form)) ∷ [])
 
@@ -223,7 +260,8 @@ asks_store (store_job.Log w) = (
   stored w.zone ((argument.From, number w.choice.from) ∷ (argument.Within, text (option_map (λ n. n.now) w.choice.name))
       ∷ (argument.Asker, text (option_map (λ c. c.now) w.choice.caller)) ∷ (argument.Json, flag (is_json w.choice.form)) ∷ []),
 )
-asks_store (store_job.Blame w) = (command.Blame, stored w.zone ((argument.Within, text (option_map (λ n. n.now) w.name)) ∷ []))
+asks_store (store_job.Blame w) =
+    (command.Blame, stored w.zone ((argument.Within, text (option_map (λ n. n.now) w.name)) ∷ (argument.Receipts, flag (has_receipts w.form)) ∷ []))
 asks_store (store_job.Undo w) = (command.Undo, stored w.zone ((argument.Changed, number w.first) ∷ (argument.To, number w.last) ∷ []))
 asks_store (store_job.Migrate w) = (command.Migrate, (argument.Store, given w.store.now) ∷ [])
 asks_store (store_job.Remove w) = (command.Remove, stored w.zone [])

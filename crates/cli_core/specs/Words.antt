@@ -18,7 +18,7 @@ subjects =
     ∷ (codes "isolation", argument.CheckedPolicy ∷ argument.Isolated ∷ argument.Json ∷ [])
     ∷ (codes "rights", argument.CheckedName ∷ argument.CheckedPolicy ∷ argument.Json ∷ [])
     ∷ (codes "expect", argument.CheckedName ∷ argument.CheckedPolicy ∷ argument.Json ∷ [])
-    ∷ (codes "reach", argument.CheckedName ∷ argument.CheckedPolicy ∷ argument.Isolated ∷ argument.CheckedOrigin ∷ argument.Json ∷ [])
+    ∷ (codes "reach", argument.CheckedName ∷ argument.CheckedPolicy ∷ argument.Isolated ∷ argument.CheckedOrigin ∷ argument.Example ∷ argument.Json ∷ [])
     ∷ (codes "zone", argument.CheckedOrigin ∷ argument.Only ∷ argument.Not ∷ argument.Server ∷ argument.Most ∷ argument.Warn ∷ argument.Json ∷ []) ∷ []
 
 -- the arguments that a job of a command reads: those of its row, and of `check` those of its subject
@@ -49,7 +49,8 @@ is_input _ = false
 -- update has an identifier, or what stands before those of its parts, and only one of them; an import has an origin, or a list of zones,
 -- and only one of them; standard input is not both a zone and the questions to it, which have their types; a zone is not checked both by
 -- one rule only and by all but one; a policy is not checked both against another and beside zones, and a reader is given with zones only;
--- a plan has answers, and then only lines, or what is decided of each item; and a policy is printed from groups or from rules
+-- a plan has answers, and then only lines, or what is decided of each item; a policy is printed from groups or from rules; and of a file one
+-- part is printed
 abbrev pub go_together : Command → List Given → Bool
 go_together command.Diff gs =
     not (is_input (value_of argument.Old gs) && is_input (value_of argument.New gs))
@@ -67,6 +68,7 @@ go_together command.Check gs =
     && (if is_given (value_of argument.Zones gs) then not (is_given (value_of argument.Against gs)) else not (is_given (value_of argument.Reader gs)))
 go_together command.Plan gs = not (is_given (value_of argument.Answers gs) && (is_given (value_of argument.Explain gs) || is_given (value_of argument.Json gs)))
 go_together command.Policy gs = list_any (bytes_eq (unwrap_or (text_of (value_of argument.Source gs)) [])) (codes "build" ∷ codes "print" ∷ [])
+go_together command.Split gs = not (is_given (value_of argument.Rest gs) && is_given (value_of argument.Signer gs))
 go_together c gs = true
 
 abbrev pub job_with : Command → List Given → Option JobOf

@@ -43,6 +43,7 @@ pub enum Argument {
     Server,
     Most,
     Warn,
+    Example,
     Source,
     SourceFile,
     Slice,
@@ -55,6 +56,9 @@ pub enum Argument {
     New,
     Id,
     Split,
+    Rest,
+    Signer,
+    Receipts,
     From,
     Within,
     Asker,
@@ -264,6 +268,11 @@ impl Argument {
                 form: Form::Flag,
                 help: "Also addresses that several names have",
             },
+            Argument::Example => &Row {
+                name: "example",
+                form: Form::Flag,
+                help: "With each group of reach a question, and operations that change its answer",
+            },
             Argument::Source => &Row {
                 name: "source",
                 form: Form::Place,
@@ -323,6 +332,21 @@ impl Argument {
                 name: "split",
                 form: Form::Optional,
                 help: "Before the numbers of the updates, as many as the limits want",
+            },
+            Argument::Rest => &Row {
+                name: "rest",
+                form: Form::Flag,
+                help: "The records of types that are not kept, but for those of a signer",
+            },
+            Argument::Signer => &Row {
+                name: "signer",
+                form: Form::Flag,
+                help: "The records that a signer made: RRSIG, NSEC, DNSKEY and others",
+            },
+            Argument::Receipts => &Row {
+                name: "receipts",
+                form: Form::Flag,
+                help: "With each change the updates that may have made it, by caller and identifier",
             },
             Argument::From => &Row {
                 name: "from",

@@ -24,6 +24,7 @@ mod request;
 mod reverse;
 mod rights;
 mod serve;
+mod split;
 mod undo;
 mod zones;
 
@@ -48,6 +49,7 @@ pub use request::Request;
 pub use reverse::Reverse;
 pub use rights::Rights;
 pub use serve::Service;
+pub use split::Split;
 pub use undo::Undo;
 pub use zones::Zones;
 
@@ -73,6 +75,7 @@ pub enum Command {
     Policy,
     Answer,
     Reverse,
+    Split,
     Explain,
 }
 
@@ -102,7 +105,7 @@ impl Command {
     ghost use Rattle.cli_core.specs.Help.{command_about, command_example};
 
     /// The commands, in the order of the help.
-    pub const ALL: [Command; 20] = [
+    pub const ALL: [Command; 21] = [
         Command::Apply,
         Command::Canon,
         Command::Diff,
@@ -122,6 +125,7 @@ impl Command {
         Command::Policy,
         Command::Answer,
         Command::Reverse,
+        Command::Split,
         Command::Explain,
     ];
 
@@ -152,6 +156,7 @@ impl Command {
             Command::Policy => &policy::ROW,
             Command::Answer => &answer::ROW,
             Command::Reverse => &reverse::ROW,
+            Command::Split => &split::ROW,
             Command::Explain => &explain::ROW,
         }
     }
@@ -218,6 +223,7 @@ impl Command {
             Command::Policy => PolicyText::read(matches),
             Command::Answer => Answer::read(matches),
             Command::Reverse => Reverse::read(matches),
+            Command::Split => Split::read(matches),
             Command::Explain => Explain::read(matches),
         }
     }

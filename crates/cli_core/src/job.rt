@@ -2,7 +2,7 @@
 
 use crate::commands::{
     Answer, Blame, Canon, Check, Diff, Explain, Export, Import, ImportList, Log, Migrate, Plan,
-    PolicyText, Remove, Request, Reverse, Rights, Service, Undo, Zones,
+    PolicyText, Remove, Request, Reverse, Rights, Service, Split, Undo, Zones,
 };
 
 /// What the program is to do.
@@ -37,6 +37,8 @@ pub enum TextJob<'a> {
     Answer(Answer<'a>),
     /// To print the PTR records that the addresses of zones call for.
     Reverse(Reverse<'a>),
+    /// To print a part of a master file.
+    Split(Split<'a>),
     /// To say what the number of a refusal means.
     Explain(Explain<'a>),
 }
@@ -73,6 +75,24 @@ pub enum TextForm {
     Plain,
     /// JSON (RFC 8259), for a program.
     Json,
+}
+
+/// What is printed of the answers that a caller can change.
+#[derive(Clone, Copy)]
+pub enum ReachForm {
+    /// The questions, in groups.
+    Groups,
+    /// These, and for each group one of them with operations that change its answer.
+    Examples,
+}
+
+/// With what the records of a zone are printed.
+#[derive(Clone, Copy)]
+pub enum BlameForm {
+    /// With the changes that brought them.
+    Changes,
+    /// With these, and the updates that may have made them.
+    Receipts,
 }
 
 /// In which form a zone is printed.

@@ -6,12 +6,12 @@ ghost use Rattle.clap.specs.Words.{first_of, found_of, rows_of};
 ghost use Rattle.cli_core.specs.declared.argument.Argument.TheVariants as argument;
 ghost use Rattle.cli_core.specs.Commands.{argument_name};
 ghost use Rattle.cli_core.specs.Values.{flag_if};
-ghost use Rattle.cli_core.specs.Jobs.{check_job, is_wanted};
+ghost use Rattle.cli_core.specs.Jobs.{check_job, has_examples, is_wanted};
 ghost use Rattle.cli_core.specs.Words.{check_by, json_given};
 
 use crate::argument::Argument;
 use crate::commands::{CommandWords, Row};
-use crate::job::{Advice, Job, RuleChoice, TextForm, TextJob, ZoneRules};
+use crate::job::{Advice, Job, ReachForm, RuleChoice, TextForm, TextJob, ZoneRules};
 use crate::matched::{flag_at, number_at, text_at, text_form_at, texts_at};
 use clap::ArgMatches;
 
@@ -67,6 +67,8 @@ pub enum CheckSubject<'a> {
         origin: &'a str,
         /// The path of the zone, and standard input where none is given.
         file: Option<&'a str>,
+        /// What is printed of them.
+        form: ReachForm,
     },
     /// To find what is expected of a policy and is not so.
     Expect {
@@ -102,6 +104,7 @@ pub(super) static ROW: Row = Row {
         Argument::Server,
         Argument::Most,
         Argument::Warn,
+        Argument::Example,
         Argument::Json,
     ],
 };
@@ -178,6 +181,17 @@ fn expect_in<'a>(matches: &ArgMatches<'a>) -> Option<CheckSubject<'a>>
     Some(CheckSubject::Expect { policy, file })
 }
 
+/// What is to be printed of the answers that a caller can change.
+fn reach_form_at(matches: &ArgMatches<'_>) -> ReachForm
+    ensures { has_examples result ≡ flag_if (first_of (argument_name argument.Example) (rows_of (found_of matches.now))) }
+{
+    if flag_at(matches, Argument::Example) {
+        ReachForm::Examples
+    } else {
+        ReachForm::Groups
+    }
+}
+
 /// The subject of `check reach`.
 fn reach_in<'a>(matches: &ArgMatches<'a>) -> Option<CheckSubject<'a>>
     ensures { option_map (λ s. check_job s (json_given (rows_of (found_of matches.now)))) result ≡ check_by (codes "reach") (rows_of (found_of matches.now)) }
@@ -185,11 +199,13 @@ fn reach_in<'a>(matches: &ArgMatches<'a>) -> Option<CheckSubject<'a>>
     let file = text_at(matches, Argument::CheckedName);
     let (policy, caller) = texts_at(matches, Argument::CheckedPolicy, Argument::Isolated)?;
     let origin = text_at(matches, Argument::CheckedOrigin)?;
+    let form = reach_form_at(matches);
     Some(CheckSubject::Reach {
         policy,
         caller,
         origin,
         file,
+        form,
     })
 }
 
