@@ -16,7 +16,7 @@ use Rattle.cli_core.specs.declared.job.TextForm.TheVariants.{Plain, Json}
 use Rattle.office_core.specs.Machine.{numbered}
 use Rattle.store_rows.specs.declared.ordered.KeptReceipt.{KeptReceipt}
 use Rattle.office_model.specs.ReplyWords.{reply_words}
-use Rattle.cli_text.specs.Plan.{signed_lines}
+use Rattle.cli_updates.specs.Plan.{signed_lines}
 use Rattle.cli_store.specs.declared.log_choice.LogAsked.{LogAsked}
 
 -- ---- what is asked for

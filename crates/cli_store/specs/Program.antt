@@ -8,7 +8,7 @@ use Rattle.cli_core.specs.declared.commands.policy.PolicyText.{PolicyText}
 use Rattle.cli_core.specs.declared.commands.check.CheckSubject.TheVariants as check
 use Rattle.cli_core.specs.declared.job.TextForm.{TextForm}
 use Rattle.cli_core.specs.declared.job.TextForm.TheVariants.{Plain}
-use Rattle.cli_text.specs.declared.check.AskedCheck.{AskedCheck}
+use Rattle.cli_checks.specs.declared.check.AskedCheck.{AskedCheck}
 use Rattle.cli_core.specs.declared.job.Job.{Job}
 use Rattle.cli_core.specs.declared.job.Job.TheVariants as job
 use Rattle.cli_core.specs.declared.job.TextJob.{TextJob}
@@ -29,33 +29,33 @@ use Rattle.cli_core.specs.Misuse.{IsReported}
 use Rattle.cli_core.specs.declared.refusal.Refusal.{Refusal}
 use Rattle.cli_core.specs.declared.line_fault.LineFault.TheVariants.{NoMemory}
 use Rattle.cli_core.specs.declared.line_fault.JobFault.{JobFault}
-use Rattle.cli_text.specs.declared.check.Findings.{Findings}
-use Rattle.cli_text.specs.declared.check.Findings.TheVariants.{Absent, Present}
-use Rattle.cli_text.specs.declared.check.Subject.{Subject}
-use Rattle.cli_text.specs.declared.check.Subject.TheVariants.{Rules, Isolation, Rights, Printed, Reverse, Zone}
-use Rattle.cli_text.specs.declared.changes_fault.ChangesFault.{ChangesFault}
-use Rattle.cli_text.specs.declared.diff_fault.DiffFault.{DiffFault}
-use Rattle.cli_text.specs.declared.expect_fault.ExpectFault.{ExpectFault}
-use Rattle.cli_text.specs.ExpectAnswers.{AreExpected}
+use Rattle.cli_checks.specs.declared.check.Findings.{Findings}
+use Rattle.cli_checks.specs.declared.check.Findings.TheVariants.{Absent, Present}
+use Rattle.cli_checks.specs.declared.check.Subject.{Subject}
+use Rattle.cli_checks.specs.declared.check.Subject.TheVariants.{Rules, Isolation, Rights, Printed, Reverse, Zone}
+use Rattle.cli_checks.specs.declared.changes_fault.ChangesFault.{ChangesFault}
+use Rattle.cli_updates.specs.declared.diff_fault.DiffFault.{DiffFault}
+use Rattle.cli_checks.specs.declared.expect_fault.ExpectFault.{ExpectFault}
+use Rattle.cli_checks.specs.ExpectAnswers.{AreExpected}
 use Rattle.cli_core.specs.Inputs.{InputOf}
 use Rattle.cli_core.specs.declared.commands.answer.Answer.{Answer}
 use Rattle.cli_text.specs.declared.answer_fault.AnswerFault.{AnswerFault}
 use Rattle.cli_text.specs.Answer.{answer_text, IsInquired}
 use Rattle.cli_text.specs.Apply.{apply_text}
 use Rattle.cli_text.specs.Canon.{canon_text}
-use Rattle.cli_text.specs.Request.{request_text}
-use Rattle.cli_text.specs.Split.{split_text}
+use Rattle.cli_updates.specs.Request.{request_text}
+use Rattle.cli_updates.specs.Split.{split_text}
 use Rattle.cli_text.specs.Rights.{rights_text}
 use Rattle.cli_text.specs.Explain.{explain_text}
 use Rattle.cli_core.specs.Replies.{line_of, IsSent, Answered}
-use Rattle.cli_text.specs.Check.{Checked}
-use Rattle.cli_text.specs.PolicyChangeAnswers.{AreChangesChecked}
-use Rattle.cli_text.specs.declared.policy_zones_fault.PolicyZonesFault.{PolicyZonesFault}
-use Rattle.cli_text.specs.PolicyZoneAnswers.{AreZonesChecked}
-use Rattle.cli_text.specs.declared.reach_fault.ReachFault.{ReachFault}
-use Rattle.cli_text.specs.ReachAnswers.{IsReachChecked}
-use Rattle.cli_text.specs.Diff.{Differs}
-use Rattle.cli_text.specs.Plan.{IsPlanned}
+use Rattle.cli_checks.specs.Check.{Checked}
+use Rattle.cli_checks.specs.PolicyChangeAnswers.{AreChangesChecked}
+use Rattle.cli_checks.specs.declared.policy_zones_fault.PolicyZonesFault.{PolicyZonesFault}
+use Rattle.cli_checks.specs.PolicyZoneAnswers.{AreZonesChecked}
+use Rattle.cli_checks.specs.declared.reach_fault.ReachFault.{ReachFault}
+use Rattle.cli_checks.specs.ReachAnswers.{IsReachChecked}
+use Rattle.cli_updates.specs.Diff.{Differs}
+use Rattle.cli_updates.specs.Plan.{IsPlanned}
 use Rattle.wire_tcp.specs.Connections.{Writing}
 use Rattle.cli_store.specs.Around.{Around, Callers}
 use Rattle.cli_store.specs.Stores.{StoresOf}

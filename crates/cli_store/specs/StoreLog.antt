@@ -18,7 +18,7 @@ use Rattle.cli_core.specs.declared.line_fault.LineFault.TheVariants.{NoMemory}
 use Rattle.cli_core.specs.declared.line_fault.JobFault.{JobFault}
 use Rattle.cli_core.specs.LineFaults.{◌>>=◌, of_names, of_store, Gives}
 use Rattle.cli_text.specs.Rights.{caller_if}
-use Rattle.cli_text.specs.Check.{name_if}
+use Rattle.cli_checks.specs.Check.{name_if}
 use Rattle.cli_store.specs.declared.log_choice.LogAsked.{LogAsked}
 use Rattle.cli_store.specs.declared.store_log.ZoneLog.{ZoneLog}
 use Rattle.cli_store.specs.Log.{log_text}

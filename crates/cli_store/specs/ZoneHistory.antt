@@ -26,8 +26,8 @@ use Rattle.cli_core.specs.declared.line_fault.LineFault.{LineFault}
 use Rattle.cli_core.specs.declared.line_fault.JobFault.{JobFault}
 use Rattle.cli_core.specs.LineFaults.{◌>>=◌, of_names, of_store, of_zones, Gives}
 use Rattle.cli_text.specs.Canon.{zone_text_in}
-use Rattle.cli_text.specs.Check.{name_if}
-use Rattle.cli_text.specs.Diff.{items_between}
+use Rattle.cli_checks.specs.Check.{name_if}
+use Rattle.cli_updates.specs.Diff.{items_between}
 use Rattle.cli_store.specs.declared.zone_blame.BlameAsked.{BlameAsked}
 use Rattle.cli_store.specs.declared.zone_history.ZoneHistory.{ZoneHistory}
 use Rattle.cli_store.specs.Export.{ExportWritten, ZoneExported}

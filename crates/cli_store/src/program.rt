@@ -3,7 +3,7 @@
 ghost use Rattle.std.specs.Prelude.{◌≡◌, ◌↔◌, ⊤, IsTrue, map, option_map, codes};
 ghost use Rattle.std.specs.Process.{exit_status};
 ghost use Rattle.sqlite.specs.Held.{state};
-ghost use Rattle.cli_text.specs.Plan.{IsPlanned};
+ghost use Rattle.cli_updates.specs.Plan.{IsPlanned};
 ghost use Rattle.cli_store.specs.Stores.{stores_of};
 ghost use Rattle.cli_store.specs.ImportList.{ListImported};
 ghost use Rattle.cli_store.specs.Program.{Ends, OfInput, EndsTask, EndsCheck, EndsChanges, EndsPolicy, EndsCheckOf, EndsPolicyText, EndsExpectedBy, EndsExpected, EndsZonesBy, EndsZones, EndsReachBy, EndsReach, EndsTaskOf, IsInquiredOf, AnswerEnds, DiffersBy, named, standard, requested, asked, CheckEnds, TextJobEnds, StoreJobEnds, JobEnds, EndsFault, WordsEnd, IsToldWhole, status_of, check_status_of};
@@ -20,15 +20,16 @@ use crate::surroundings::{Ended, NamedFile, Surroundings};
 use crate::zone_blame::blame;
 use crate::zone_undo::undo;
 use crate::zones::import;
+use cli_checks::{
+    AskedCheck, Findings, Subject, do_changes, do_check, do_expect, do_policy_zones, do_reach,
+};
 use cli_core::{
     Answer, Check, CheckSubject, DiffForm, ImportList, Input, Job, JobFault, NO_MEMORY_LINE,
     PlanForm, PolicyText, RequestForm, StoreJob, TextForm, TextJob, WordsFault, ZoneFiles,
     read_words, write_text,
 };
-use cli_text::{
-    AnswerFault, Apply, AskedCheck, DiffFault, Findings, Request, Split, Subject, Task, do_answers,
-    do_changes, do_check, do_diff, do_expect, do_plan, do_policy_zones, do_reach,
-};
+use cli_text::{AnswerFault, Apply, Task, do_answers};
+use cli_updates::{DiffFault, Request, Split, do_diff, do_plan};
 use dns_master::{Sink, Source};
 use sqlite::{Alter, Connection};
 use std::fmt::Display;

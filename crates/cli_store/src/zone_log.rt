@@ -9,7 +9,7 @@ ghost use Rattle.cli_store.specs.Log.{numbered_as, change_text, receipt_line, re
 use crate::log_choice::LogAsked;
 use crate::log_object::{push_change_object, push_receipt_object};
 use cli_core::TextForm;
-use cli_text::push_signed;
+use cli_updates::push_signed;
 use office_model::reply_words;
 use std::alloc::{AllocError, Global};
 use std::fmt::Write as _;

@@ -23,15 +23,10 @@ use Rattle.cli_text.specs.declared.questions.Inquiry.{Inquiry}
 use Rattle.cli_text.specs.QuestionViews.{inquiry_view}
 use Rattle.cli_text.specs.Canon.{zone_of_file}
 use Rattle.cli_text.specs.AnswerObjects.{answer_object}
+use Rattle.cli_text.specs.RecordLines.{records_text}
 use Rattle.cli_text.specs.Questions.{QuestionOf, InquiryOf, inquiry_of, inquiry_in}
 
 -- ---- one answer
-
-abbrev pub record_text : Record → List ℕ
-record_text r = record_line r ++ 10 ∷ []
-
-abbrev pub records_text : List Record → List ℕ
-records_text rs = flat_map record_text rs
 
 -- whether the server has authority (AA, RFC 1035 section 4.1.1)
 abbrev pub end_of_line : Bool → List ℕ

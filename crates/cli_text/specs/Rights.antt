@@ -15,6 +15,10 @@ use Rattle.cli_text.specs.declared.rights.QuestionRead.{QuestionRead}
 use Rattle.cli_core.specs.LineFaults.{◌>>=◌, or_refused, limited, of_names, of_policies}
 use Rattle.cli_text.specs.RightsObjects.{verdict_object}
 
+-- the caller that a word is
+abbrev pub caller_in : List ℕ → Result (List ℕ) Refusal
+caller_in word = or_refused (identifier_of word) NoCaller
+
 -- the caller that a word is, if one is given
 abbrev pub caller_if : Option (List ℕ) → Result (Option (List ℕ)) Refusal
 caller_if None = Ok None

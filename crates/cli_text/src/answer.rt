@@ -7,14 +7,14 @@ ghost use Rattle.dns_data.specs.Text.{record_line};
 ghost use Rattle.cli_core.specs.LineFaults.{Gives, GivesOf};
 ghost use Rattle.cli_text.specs.QuestionViews.{question_view, inquiry_view};
 ghost use Rattle.cli_text.specs.Questions.{inquiry_of};
-ghost use Rattle.cli_text.specs.Answer.{record_text, records_text, question_line, answer_lines, answer_in_form, question_text, answers_text, answers_behind, answers_of, answer_text, inquiry_read, IsInquiryRead, IsInquired};
+ghost use Rattle.cli_text.specs.Answer.{question_line, answer_lines, answer_in_form, question_text, answers_text, answers_behind, answers_of, answer_text, inquiry_read, IsInquiryRead, IsInquired};
 
 use crate::answer_fault::AnswerFault;
 use crate::answer_object::push_object;
 use crate::canon::{read_name, zone_of_file};
 use crate::questions::{Inquiry, Question, inquiry_in, inquiry_of};
+use crate::record_lines::push_records;
 use crate::task::Task;
-use crate::zone_check::line_of;
 use cli_core::{
     Answer, Input, JobFault, LineFault, TextForm, read_input, write_refusal, write_text,
 };
@@ -22,28 +22,6 @@ use dns_data::Record;
 use dns_master::Sink;
 use std::alloc::{AllocError, Global};
 use zone_answers::ZoneIndex;
-
-/// Appends the line of a record. The only error is out of memory.
-fn push_record(alloc: Global, text: &mut Vec<u8>, rr: &Record) -> Result<(), AllocError>
-    ensures { OnOk result (text.new.items ≡ text.old.items ++ record_text rr.now) }
-{
-    let line = line_of(alloc, rr)?;
-    text.extend_from_slice(line.as_bytes())
-}
-
-/// Appends the lines of records. The only error is out of memory.
-pub(crate) fn push_records(
-    alloc: Global,
-    text: &mut Vec<u8>,
-    records: &[Record],
-) -> Result<(), AllocError>
-    ensures { OnOk result (text.new.items ≡ text.old.items ++ records_text records.now) }
-{
-    for record in records {
-        push_record(alloc, text, record)?;
-    }
-    Ok(())
-}
 
 /// Appends the line of a question and of the code of its answer, a comment. The only error is out of memory.
 fn push_question(

@@ -16,7 +16,7 @@ use wire_json::{push_lines, push_name, push_quoted};
 use zone_answers::Answer;
 
 /// Appends a text, and after it records as an array of lines. The only error is out of memory.
-pub(crate) fn push_section(
+pub fn push_section(
     text: &mut Vec<u8>,
     line: &mut String,
     key: &str,
@@ -29,7 +29,7 @@ pub(crate) fn push_section(
 }
 
 /// Appends a text, and after it a string. The only error is out of memory.
-pub(crate) fn push_string(text: &mut Vec<u8>, key: &str, value: &[u8]) -> Result<(), AllocError>
+pub fn push_string(text: &mut Vec<u8>, key: &str, value: &[u8]) -> Result<(), AllocError>
     ensures { OnOk result (text.new.items ≡ text.old.items ++ (key.now ++ quoted value.now)) }
 {
     text.extend_from_slice(key.as_bytes())?;
@@ -37,7 +37,7 @@ pub(crate) fn push_string(text: &mut Vec<u8>, key: &str, value: &[u8]) -> Result
 }
 
 /// Appends a text, and after it a name as a string. The only error is out of memory.
-pub(crate) fn push_owner(
+pub fn push_owner(
     text: &mut Vec<u8>,
     line: &mut String,
     key: &str,

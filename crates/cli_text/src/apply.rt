@@ -19,11 +19,11 @@ use zone_core::{Outcome, Rcode, Update, Zone, ZoneFault, apply_owned, holds};
 
 /// What was read of an input, whose octets are given back.
 #[derive(Drop)]
-pub(crate) struct InputRead {
+pub struct InputRead {
     /// The records of its master file.
-    pub(crate) records: Vec<Record>,
+    pub records: Vec<Record>,
     /// Its items, or why they are no update: that is told after what is wrong with the records.
-    pub(crate) update: Result<Update, LineFault>,
+    pub update: Result<Update, LineFault>,
 }
 
 /// The name of the root.
@@ -34,7 +34,7 @@ fn root(alloc: Global) -> Result<Name, LineFault>
 }
 
 /// The records of a master file, relative to the root.
-pub(crate) fn read_records(alloc: Global, file: &[u8]) -> Result<Vec<Record>, LineFault>
+pub fn read_records(alloc: Global, file: &[u8]) -> Result<Vec<Record>, LineFault>
     ensures { Gives (λ records. records.items) result (records_of file.now) }
 {
     let root = root(alloc)?;
@@ -65,7 +65,7 @@ fn read_update(alloc: Global, parts: &InputParts<'_>) -> Result<Update, LineFaul
 }
 
 /// What stands in an input, whose octets are given back.
-pub(crate) fn read_parts(alloc: Global, input: Vec<u8>) -> Result<InputRead, LineFault>
+pub fn read_parts(alloc: Global, input: Vec<u8>) -> Result<InputRead, LineFault>
     ensures records { Gives (λ read. read.records.items) result (records_in input.items) }
     ensures update { IfOk result (λ read. Gives (λ update. update) read.update (update_in input.items)) }
 {
@@ -88,7 +88,7 @@ fn origin_of(records: &[Record]) -> Option<&Name>
 }
 
 /// The zone of records, whose origin is the owner of the first SOA.
-pub(crate) fn zone_of_records(alloc: Global, records: Vec<Record>) -> Result<Zone, LineFault>
+pub fn zone_of_records(alloc: Global, records: Vec<Record>) -> Result<Zone, LineFault>
     ensures { Gives (λ zone. zone) result (zone_of_records records.items) }
 {
     let Some(origin) = origin_of(&records) else {

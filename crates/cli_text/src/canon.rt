@@ -31,7 +31,7 @@ fn read_records(alloc: Global, text: Vec<u8>, origin: &Name) -> Result<Vec<Recor
 }
 
 /// The zone of an origin and a master file, whose octets are given back.
-pub(crate) fn zone_of_file(alloc: Global, origin: Name, text: Vec<u8>) -> Result<Zone, LineFault>
+pub fn zone_of_file(alloc: Global, origin: Name, text: Vec<u8>) -> Result<Zone, LineFault>
     ensures { Gives (λ zone. zone) result (zone_of_file origin text.items) }
 {
     let records = read_records(alloc, text, &origin)?;

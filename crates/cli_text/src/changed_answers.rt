@@ -51,7 +51,7 @@ fn push_types(text: &mut String, types: &[QueryType]) -> Result<(), AllocError>
 
 /// Appends a line: a word that says which names, the name that they are at or below, and the types of questions. The only error is out of
 /// memory.
-pub(crate) fn push_questions(
+pub fn push_questions(
     text: &mut String,
     word: &str,
     name: &Name,
@@ -88,7 +88,7 @@ fn rows_text(alloc: Global, rows: &[ChangedAnswers]) -> Result<String, AllocErro
 /// A line for each group of names for which a server answers questions otherwise from the new zone than from the old one, of the same
 /// origin: `at` and a name, or `below` and a name for those below it that neither zone has, to which no alias leads, and that have no
 /// closer name above them that a zone has; and the types of the questions, or `*` for all. The only error is out of memory.
-pub(crate) fn answer_lines(alloc: Global, old: Zone, new: Zone) -> Result<String, AllocError>
+pub fn answer_lines(alloc: Global, old: Zone, new: Zone) -> Result<String, AllocError>
     requires { new.origin ≡ old.origin }
     ensures { IfOk result (λ text. AreAnswerLines old new (string_bytes text)) }
 {

@@ -1,5 +1,5 @@
-//! The commands that need no store, `canon`, `apply`, `diff`, `request`, `rights`, `plan`, `check`, `answer`, `reverse` and `explain`: each
-//! writes its answer to an input, or one line that says why it has no answer.
+//! The commands on one zone or one policy, `canon`, `apply`, `answer`, `split`, `rights` and `explain`: each writes its answer to an input, or one
+//! line that says why it has no answer. And what other commands read and print as these do.
 #![tactic(auto)]
 
 mod answer;
@@ -8,69 +8,26 @@ mod answer_object;
 mod apply;
 mod canon;
 mod changed_answers;
-mod changes_fault;
-mod check;
-mod diff;
-mod diff_fault;
-mod expect;
-mod expect_fault;
-mod expectations;
 mod explain;
-mod explained;
-mod filling;
-mod guard;
-mod idle_lines;
 mod laws;
 mod line_objects;
-mod octets;
-mod origin_list;
 mod parts;
-mod pieces;
-mod plan;
-mod plan_fault;
-mod plan_object;
-mod point_object;
-mod policy_changes;
-mod policy_zones;
-mod policy_zones_fault;
-mod printed_policy;
 mod query_type;
 mod questions;
-mod reach;
-mod reach_fault;
-mod request;
-mod reverse;
+mod record_lines;
 mod rights;
-mod rights_check;
 mod rights_object;
-mod slots;
-mod split;
 mod task;
-mod zone_check;
 
 pub use answer::do_answers;
 pub use answer_fault::AnswerFault;
-pub use apply::Apply;
-pub use canon::{print_zone_in, read_name, read_zone};
-pub use changes_fault::ChangesFault;
-pub use check::{AskedCheck, Findings, Subject, do_check, name_if};
-pub use diff::{do_diff, items_between};
-pub use diff_fault::DiffFault;
-pub use expect::do_expect;
-pub use expect_fault::ExpectFault;
-pub use laws::{
-    diffs_are_guarded, diffs_lead, guards_test_sets, lists_are_read, splits_are_parts,
-    splits_make_the_update, text_is_divided, zones_are_read_again,
-};
-pub use plan::{do_plan, push_signed};
-pub use plan_fault::PlanFault;
-pub use policy_changes::do_changes;
-pub use policy_zones::do_policy_zones;
-pub use policy_zones_fault::PolicyZonesFault;
+pub use answer_object::{push_owner, push_section, push_string};
+pub use apply::{Apply, InputRead, read_parts, read_records, zone_of_records};
+pub use canon::{print_zone_in, read_name, read_zone, zone_of_file};
+pub use changed_answers::{answer_lines, push_questions};
+pub use laws::{text_is_divided, zones_are_read_again};
+pub use line_objects::{LineKind, in_form};
 pub use questions::name_on;
-pub use reach::do_reach;
-pub use reach_fault::ReachFault;
-pub use request::Request;
-pub use rights::caller_if;
-pub use split::Split;
+pub use record_lines::{line_of, push_records};
+pub use rights::{caller_if, decision_text, read_caller};
 pub use task::Task;

@@ -86,7 +86,7 @@ impl QuestionRead {
 }
 
 /// The line that tells a decision. The only error is out of memory.
-pub(crate) fn decision_text(alloc: Global, decision: Decision<'_>) -> Result<Vec<u8>, AllocError>
+pub fn decision_text(alloc: Global, decision: Decision<'_>) -> Result<Vec<u8>, AllocError>
     ensures { IfOk result (λ text. text.items ≡ verdict_line (verdict_of decision.entry)) }
 {
     let word = if decision.is_granted() {

@@ -12,8 +12,8 @@ use crate::commands::devices::{Command, Manner};
 use crate::commands::diffs::push_diff;
 use crate::commands::plans::push_plan;
 use crate::commands::policies::{push_against, push_expect, push_reach, push_zones};
+use cli_checks::Findings;
 use cli_core::{JobFault, LineFault};
-use cli_text::Findings;
 use std::alloc::{AllocError, Global};
 use test_rows::Row;
 

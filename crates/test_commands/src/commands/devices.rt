@@ -2,10 +2,12 @@
 
 use crate::commands::policies::form_of;
 use crate::commands::trials::{Devices, Trial, tried};
+use cli_checks::{AskedCheck, Findings, Subject, do_check};
 use cli_core::{
     Answer, Canon, Explain, JobFault, PolicySource, QuestionWords, Rights, TextForm, ZoneForm,
 };
-use cli_text::{Apply, AskedCheck, Findings, Request, Split, Subject, Task, do_check};
+use cli_text::{Apply, Task};
+use cli_updates::{Request, Split};
 use dns_master::{Pieces, Sink, Source};
 use std::alloc::{AllocError, Global};
 

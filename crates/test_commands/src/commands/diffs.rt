@@ -3,7 +3,8 @@
 use crate::commands::devices::{Does, Manner};
 use crate::commands::trials::{Devices, Trial, tried};
 use cli_core::{DiffContent, DiffForm, GuardScope, ItemForm, TextForm};
-use cli_text::{Apply, DiffFault, do_diff};
+use cli_text::Apply;
+use cli_updates::{DiffFault, do_diff};
 use dns_master::{Sink, Source};
 use std::alloc::{AllocError, Global};
 use std::fmt::Display;

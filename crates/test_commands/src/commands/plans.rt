@@ -4,7 +4,7 @@ use crate::commands::devices::Manner;
 use crate::commands::diffs::push_outcome;
 use crate::commands::trials::{Devices, Trial, tried};
 use cli_core::{PlanForm, PlanLines, PlanObject};
-use cli_text::{PlanFault, do_plan};
+use cli_updates::{PlanFault, do_plan};
 use dns_master::{Sink, Source};
 use std::alloc::{AllocError, Global};
 use test_rows::{Row, text_of};

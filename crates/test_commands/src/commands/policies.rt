@@ -2,11 +2,11 @@
 
 use crate::commands::devices::Manner;
 use crate::commands::trials::{Devices, Trial, tried};
-use cli_core::TextForm;
-use cli_text::{
+use cli_checks::{
     ChangesFault, ExpectFault, Findings, PolicyZonesFault, ReachFault, do_changes, do_expect,
     do_policy_zones, do_reach,
 };
+use cli_core::TextForm;
 use dns_master::{Sink, Source};
 use std::alloc::{AllocError, Global};
 use std::fmt::Display;

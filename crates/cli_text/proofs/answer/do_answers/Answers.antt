@@ -1,4 +1,4 @@
-use Rattle.cli_text.proofs.DiffLemmas.{answered_behind}
+use Rattle.cli_text.proofs.ZoneOriginLemmas.{answered_behind}
 use Rattle.cli_text.specs.QuestionViews.{inquiry_view}
 use Rattle.cli_text.proofs.answer.do_answers.Goals as goal
 

@@ -1,0 +1,6 @@
+pub mod ReportLemmas
+pub mod OriginLemmas
+pub mod OriginLaws
+pub mod CheckLemmas
+pub mod PrintedLemmas
+pub mod ReportTextLemmas

@@ -1,0 +1,15 @@
+pub mod ZoneCheck
+pub mod RightsCheck
+pub mod ReportLines
+pub mod Expect
+pub mod OriginLists
+pub mod PolicyZones
+pub mod PrintedPolicies
+pub mod Reverse
+pub mod PolicyChanges
+pub mod Reach
+pub mod Check
+pub mod PolicyChangeAnswers
+pub mod ExpectAnswers
+pub mod PolicyZoneAnswers
+pub mod ReachAnswers

@@ -1,7 +1,0 @@
-use Rattle.std.proofs.Common.{◌≡◌, take}
-use Rattle.cli_text.specs.Check.{idle_text}
-use Rattle.cli_text.proofs.check.idle_text.Given as goal
-
--- the lines of the rules so far
-abbrev pub invariant-loop-rule : goal.invariant-loop-rule
-invariant-loop-rule l = l.text.items ≡ idle_text l.rules (take l.rule-index l.idle)

@@ -1,6 +1,0 @@
-use Rattle.std.proofs.Common.{◌≡◌, ◌++◌, map, take}
-use Rattle.cli_text.specs.Guards.{there}
-use Rattle.cli_text.proofs.guard.push_there.Given as goal
-
-abbrev pub invariant-loop-record : goal.invariant-loop-record
-invariant-loop-record l = l.guards.items ≡ l.fn.guards.items ++ map there (take l.record-index l.records)

@@ -1,4 +1,0 @@
-use Rattle.cli_text.proofs.idle_lines.push_line.Goals as goal
-
-pub returns : goal.returns
-returns c = rw c.text-why.ensures at c.writeln.ensures.bytes

@@ -1,7 +1,0 @@
-use Rattle.std.proofs.Common.{◌≡◌, ◌++◌, take}
-use Rattle.std.specs.Prelude.{string_bytes}
-use Rattle.cli_text.specs.Plan.{signed_lines}
-use Rattle.cli_text.proofs.plan.push_signed.Given as goal
-
-abbrev pub invariant-loop-record : goal.invariant-loop-record
-invariant-loop-record l = string_bytes l.text ≡ string_bytes l.initial.text ++ signed_lines l.sign (take l.record-index l.records)

@@ -1,6 +1,0 @@
-use Rattle.cli_text.proofs.PrintedLemmas.{NamesFrom}
-use Rattle.cli_text.proofs.printed_policy.names_from.Given as goal
-
--- the names of the words so far, and those of the others
-abbrev pub invariant-loop-word : goal.invariant-loop-word
-invariant-loop-word l = NamesFrom l.words l.word-index l.names.items

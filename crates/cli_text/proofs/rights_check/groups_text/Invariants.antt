@@ -1,8 +1,0 @@
-use Rattle.std.proofs.Common.{◌≡◌, take}
-use Rattle.std.specs.List.{flat_map}
-use Rattle.cli_text.specs.RightsCheck.{group_text}
-use Rattle.cli_text.proofs.rights_check.groups_text.Given as goal
-
--- the groups so far
-abbrev pub invariant-loop-row : goal.invariant-loop-row
-invariant-loop-row l = l.text.items ≡ flat_map group_text (take l.row-index l.rows)

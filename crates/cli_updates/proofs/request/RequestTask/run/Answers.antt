@@ -1,0 +1,7 @@
+use Rattle.std.specs.Prelude.{string_bytes}
+use Rattle.cli_updates.specs.Request.{request_text}
+use Rattle.cli_core.proofs.JobLemmas.{answered_written}
+use Rattle.cli_updates.proofs.request.RequestTask.run.Goals as goal
+
+pub returns : goal.returns
+returns g c = answered_written _ (request_text c.args.self.id.now) _ _ _ _ _ _ string_bytes c.answer.result c.write_answer.result c.answer.ensures c.write_answer.ensures
