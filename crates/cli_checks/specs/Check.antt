@@ -72,7 +72,7 @@ asked_in (subject.Isolation word) = or_refused (identifier_of word.now) NoCaller
 asked_in (subject.Rights word) = name_if (option_map (λ w. w.now) word) >>= λ name. Ok (asked.Rights name)
 asked_in (subject.Printed source word) = zones_if (option_map (λ w. w.now) word) >>= λ zones. Ok (asked.Printed source zones)
 asked_in (subject.Reverse word) = of_names (absolute_name word.now) >>= λ origin. Ok (asked.Reverse origin)
-asked_in (subject.Reach policy caller word) = of_names (absolute_name word.now) >>= λ origin. Ok (asked.Reach policy caller origin)
+asked_in (subject.Reach policy caller words) = of_names (absolute_name words.origin.now) >>= λ origin. Ok (asked.Reach policy caller origin)
 asked_in (subject.Zone origin rules) = tests_of rules >>= λ tests. of_names (absolute_name origin.now) >>= λ name. Ok (asked.Zone name tests)
 
 -- what that is in an input: a policy, expectations, a list of zones, or the files of zones

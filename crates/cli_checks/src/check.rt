@@ -21,8 +21,8 @@ use crate::reverse::{ForwardRecords, forward_records, reverse_report};
 use crate::rights_check::rights_list;
 use crate::zone_check::{ZoneTests, tests_of, zone_report};
 use cli_core::{
-    Input, JobFault, LineFault, PolicySource, TextForm, ZoneRules, read_input, write_refusal,
-    write_text,
+    Input, JobFault, LineFault, PolicySource, Reach, TextForm, ZoneRules, read_input,
+    write_refusal, write_text,
 };
 use cli_text::{LineKind, in_form, read_caller, read_name, zone_of_file};
 use dns_master::Sink;
@@ -52,8 +52,8 @@ pub enum Subject<'a> {
     Printed(PolicySource, Option<&'a str>),
     /// The pointers that its addresses call for in the reverse zone of this origin.
     Reverse(&'a str),
-    /// Which answers of the zone of this origin this policy lets this caller change.
-    Reach(&'a Policy, &'a Identifier, &'a str),
+    /// Which answers of a zone this policy lets this caller change, and what words name of it: its origin, and what is printed of them.
+    Reach(&'a Policy, &'a Identifier, Reach<'a>),
     /// What other name servers refuse or warn of in the zone of this origin, and what else is asked for.
     Zone(&'a str, ZoneRules<'a>),
 }
@@ -144,8 +144,8 @@ fn asked_in<'a>(alloc: Global, subject: Subject<'a>) -> Result<Asked<'a>, LineFa
         Subject::Rights(word) => Ok(Asked::Rights(name_if(alloc, word)?)),
         Subject::Printed(source, zones) => Ok(Asked::Printed(source, zones_if(alloc, zones)?)),
         Subject::Reverse(word) => Ok(Asked::Reverse(read_name(alloc, word)?)),
-        Subject::Reach(policy, caller, origin) => {
-            Ok(Asked::Reach(policy, caller, read_name(alloc, origin)?))
+        Subject::Reach(policy, caller, words) => {
+            Ok(Asked::Reach(policy, caller, read_name(alloc, words.origin)?))
         }
         Subject::Zone(origin, rules) => zone_asked(alloc, origin, rules),
     }

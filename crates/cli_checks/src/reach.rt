@@ -12,7 +12,7 @@ use crate::policy_changes::old_policy;
 use crate::reach_fault::ReachFault;
 use crate::zone_check::told;
 use answer_reach::{ReachedAnswers, ReachedNames, reached_answers};
-use cli_core::{Input, LineFault, TextForm, write_refusal};
+use cli_core::{Input, LineFault, Reach, TextForm, write_refusal};
 use cli_text::{push_questions, read_caller, zone_of_file};
 use dns_master::Sink;
 use dns_names::Name;
@@ -77,18 +77,18 @@ pub(crate) fn reach_report(
 /// records as a zone.
 pub fn do_reach<R: Input, N: Input, W: Sink>(
     alloc: Global,
-    what: (&str, &str, TextForm),
+    what: (Reach<'_>, TextForm),
     policy: &mut R,
     zone: &mut N,
     writer: &mut W,
 ) -> Result<Findings, ReachFault>
-    ensures { IsReachChecked what.entry.0.now what.entry.1 what.entry.2
+    ensures { IsReachChecked what.entry.0 what.entry.1
         (record { left = R.left policy.old; fine = R.fine policy.old policy.new; failed = R.failed policy.old policy.new })
         (record { left = N.left zone.old; fine = N.fine zone.old zone.new; failed = N.failed zone.old zone.new }) (W.contents writer.old)
         (W.contents writer.new) result (W.failures writer.old) (W.failures writer.new) }
 {
-    let (caller, origin, form) = what;
-    let caller = match read_caller(alloc, caller) {
+    let (words, form) = what;
+    let caller = match read_caller(alloc, words.caller) {
         Ok(caller) => caller,
         Err(fault) => return Err(ReachFault::Caller(write_refusal(alloc, writer, fault))),
     };
@@ -97,7 +97,7 @@ pub fn do_reach<R: Input, N: Input, W: Sink>(
         Err(fault) => return Err(ReachFault::Policy(fault)),
     };
     let wanted = AskedCheck {
-        subject: Subject::Reach(&policy, &caller, origin),
+        subject: Subject::Reach(&policy, &caller, words),
         form,
     };
     match do_check(alloc, wanted, zone, writer) {

@@ -1,8 +1,7 @@
 //! What other name servers refuse or warn of in a zone, as text.
 
-ghost use Rattle.std.specs.Prelude.{◌≡◌, ◌++◌, ◌∷◌, [], IfOk, OnOk, codes, option_map, string_bytes};
+ghost use Rattle.std.specs.Prelude.{◌≡◌, ◌++◌, ◌∷◌, [], IfOk, OnOk, codes, option_map};
 ghost use Rattle.std.specs.List.{flat_map};
-ghost use Rattle.dns_data.specs.Text.{record_line};
 ghost use Rattle.cli_core.specs.LineFaults.{Gives};
 ghost use Rattle.zone_core.specs.Sets.{listing};
 ghost use Rattle.cli_checks.specs.ZoneCheck.{rule_named, filter_of, server_named, server_if, tests_of, asks_for, minds, is_minded, is_asked, worded, line_by, finding_text, told, IsSetsText, IsAdviceText, IsZoneReport};

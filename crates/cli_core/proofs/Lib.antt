@@ -7,5 +7,7 @@ pub mod DeviceLemmas
 pub mod JobLemmas
 pub mod DiffWordLemmas
 pub mod PlanWordLemmas
+pub mod ReachWordLemmas
+pub mod SplitWordLemmas
 pub mod SendLemmas
 pub mod StepLemmas

@@ -17,8 +17,8 @@ use Rattle.cli_core.specs.declared.job.BlameForm.{BlameForm}
 use Rattle.cli_core.specs.declared.job.BlameForm.TheVariants as blame
 use Rattle.cli_core.specs.declared.job.Existing.{Existing}
 use Rattle.cli_core.specs.declared.job.Existing.TheVariants.{Kept, Replaced}
-use Rattle.cli_core.specs.declared.job.ReachForm.{ReachForm}
-use Rattle.cli_core.specs.declared.job.ReachForm.TheVariants as reach
+use Rattle.cli_core.specs.declared.job.ReachContent.{ReachContent}
+use Rattle.cli_core.specs.declared.job.ReachContent.TheVariants as reach
 use Rattle.cli_core.specs.declared.job.TextForm.{TextForm}
 use Rattle.cli_core.specs.declared.job.TextForm.TheVariants.{Plain, Json}
 use Rattle.cli_core.specs.declared.job.DiffContent.{DiffContent}
@@ -111,9 +111,15 @@ is_json Plain = false
 is_json Json = true
 
 -- examples are asked for
-abbrev pub has_examples : ReachForm → Bool
+abbrev pub has_examples : ReachContent → Bool
 has_examples reach.Groups = false
 has_examples reach.Examples = true
+
+-- what two flags ask for: examples are lines only
+abbrev pub reach_content_by : Bool → Bool → Option ReachContent
+reach_content_by false json = Some reach.Groups
+reach_content_by true false = Some reach.Examples
+reach_content_by true true = None
 
 -- receipts are asked for
 abbrev pub has_receipts : BlameForm → Bool
@@ -182,10 +188,10 @@ check_job (check.Rights policy name) gs =
     (command.Check, subject (codes "rights") ∷ (argument.CheckedName, text (option_map (λ n. n.now) name)) ∷ (argument.CheckedPolicy, given policy.now) ∷ gs)
 check_job (check.Expect policy file) gs =
     (command.Check, subject (codes "expect") ∷ (argument.CheckedName, text (option_map (λ f. f.now) file)) ∷ (argument.CheckedPolicy, given policy.now) ∷ gs)
-check_job (check.Reach policy caller origin file form) gs = (
+check_job (check.Reach w) gs = (
   command.Check,
-  subject (codes "reach") ∷ (argument.CheckedName, text (option_map (λ f. f.now) file)) ∷ (argument.CheckedPolicy, given policy.now)
-      ∷ (argument.Isolated, given caller.now) ∷ (argument.CheckedOrigin, given origin.now) ∷ (argument.Example, flag (has_examples form)) ∷ gs,
+  subject (codes "reach") ∷ (argument.CheckedName, text (option_map (λ f. f.now) w.file)) ∷ (argument.CheckedPolicy, given w.policy.now)
+      ∷ (argument.Isolated, given w.caller.now) ∷ (argument.CheckedOrigin, given w.origin.now) ∷ (argument.Example, flag (has_examples w.content)) ∷ gs,
 )
 check_job (check.Zone origin rules) gs =
     (command.Check, subject (codes "zone") ∷ (argument.CheckedOrigin, given origin.now) ∷ choice_values rules.choice (further_values rules gs))

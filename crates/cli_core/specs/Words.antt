@@ -49,6 +49,7 @@ is_input _ = false
 -- update has an identifier, or what stands before those of its parts, and only one of them; an import has an origin, or a list of zones,
 -- and only one of them; standard input is not both a zone and the questions to it, which have their types; a zone is not checked both by
 -- one rule only and by all but one; a policy is not checked both against another and beside zones, and a reader is given with zones only;
+-- examples of what is reached are lines only;
 -- a plan has answers, and then only lines, or what is decided of each item; a policy is printed from groups or from rules; and of a file one
 -- part is printed
 abbrev pub go_together : Command → List Given → Bool
@@ -65,7 +66,8 @@ go_together command.Import gs =
     if is_given (value_of argument.ImportedOrigin gs) then not (is_given (value_of argument.List gs)) else is_given (value_of argument.List gs)
 go_together command.Check gs =
     not (is_given (value_of argument.Only gs) && is_given (value_of argument.Not gs))
-    && (if is_given (value_of argument.Zones gs) then not (is_given (value_of argument.Against gs)) else not (is_given (value_of argument.Reader gs)))
+    && ((if is_given (value_of argument.Zones gs) then not (is_given (value_of argument.Against gs)) else not (is_given (value_of argument.Reader gs)))
+    && not (is_given (value_of argument.Example gs) && is_given (value_of argument.Json gs)))
 go_together command.Plan gs = not (is_given (value_of argument.Answers gs) && (is_given (value_of argument.Explain gs) || is_given (value_of argument.Json gs)))
 go_together command.Policy gs = list_any (bytes_eq (unwrap_or (text_of (value_of argument.Source gs)) [])) (codes "build" ∷ codes "print" ∷ [])
 go_together command.Split gs = not (is_given (value_of argument.Rest gs) && is_given (value_of argument.Signer gs))

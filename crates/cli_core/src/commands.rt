@@ -34,7 +34,7 @@ pub use answer::Answer;
 use apply::Apply;
 pub use blame::Blame;
 pub use canon::Canon;
-pub use check::{Check, CheckSubject};
+pub use check::{Check, CheckSubject, Reach};
 use clap::ArgMatches;
 pub use diff::Diff;
 pub use explain::Explain;

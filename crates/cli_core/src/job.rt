@@ -79,7 +79,7 @@ pub enum TextForm {
 
 /// What is printed of the answers that a caller can change.
 #[derive(Clone, Copy)]
-pub enum ReachForm {
+pub enum ReachContent {
     /// The questions, in groups.
     Groups,
     /// These, and for each group one of them with operations that change its answer.

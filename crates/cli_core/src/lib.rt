@@ -18,16 +18,16 @@ mod words;
 
 pub use commands::{
     Answer, Blame, Canon, Check, CheckSubject, Diff, Explain, Export, Import, ImportList, Log,
-    Migrate, Plan, PolicySource, PolicyText, Remove, Request, Reverse, Rights, Service, Split,
-    Undo, Zones,
+    Migrate, Plan, PolicySource, PolicyText, Reach, Remove, Request, Reverse, Rights, Service,
+    Split, Undo, Zones,
 };
 pub use device::{ended, write_answer, write_octets, write_refusal, write_text};
 pub use input::{Input, read_input};
 pub use input_file::read_path;
 pub use job::{
     Advice, BlameForm, DiffContent, DiffForm, Existing, GuardScope, ItemForm, Job, LogChoice,
-    PlanForm, PlanLines, PlanObject, QuestionWords, ReachForm, RequestForm, RuleChoice, StoreJob,
-    StoredZone, TextForm, TextJob, ZoneFiles, ZoneForm, ZoneRules,
+    PlanForm, PlanLines, PlanObject, QuestionWords, ReachContent, RequestForm, RuleChoice,
+    StoreJob, StoredZone, TextForm, TextJob, ZoneFiles, ZoneForm, ZoneRules,
 };
 pub use line_fault::{JobFault, LineFault, NO_MEMORY_LINE};
 pub use refusal::{Refusal, RefusalLine};

@@ -4,6 +4,7 @@ use Rattle.std.specs.Borrow.{Bor}
 use Rattle.dns_master.specs.declared.device.DeviceFailed.{DeviceFailed}
 use Rattle.cli_core.specs.declared.commands.check.Check.{Check}
 use Rattle.cli_core.specs.declared.commands.check.CheckSubject.{CheckSubject}
+use Rattle.cli_core.specs.declared.commands.check.Reach.{Reach}
 use Rattle.cli_core.specs.declared.commands.policy.PolicyText.{PolicyText}
 use Rattle.cli_core.specs.declared.commands.check.CheckSubject.TheVariants as check
 use Rattle.cli_core.specs.declared.job.TextForm.{TextForm}
@@ -47,6 +48,7 @@ use Rattle.cli_updates.specs.Request.{request_text}
 use Rattle.cli_updates.specs.Split.{split_text}
 use Rattle.cli_text.specs.Rights.{rights_text}
 use Rattle.cli_text.specs.Explain.{explain_text}
+use Rattle.cli_text.specs.Parting.{part_printed}
 use Rattle.cli_core.specs.Replies.{line_of, IsSent, Answered}
 use Rattle.cli_checks.specs.Check.{Checked}
 use Rattle.cli_checks.specs.PolicyChangeAnswers.{AreChangesChecked}
@@ -174,15 +176,16 @@ EndsZones a i form policy reader path o status =
     ⊎ ((path ≡ codes "-") × EndsZonesBy a form policy reader (standard i) o status)
 
 -- The policy of the path is read, and then the zone of the origin. At 0 both were read, and the caller can change no answer.
-abbrev pub EndsReachBy : {H : Type 0} → Around H → TextForm → List ℕ → List ℕ → Bor (List ℕ) → InputOf → Writing → ℕ → Type 0
-EndsReachBy a form policy caller origin zone o status = (outcome : Result Findings ReachFault)
-    × IsReachChecked caller origin form (named a policy) zone o.old o.new outcome o.before o.after × (status ≡ check_status_of outcome)
+abbrev pub EndsReachBy : {H : Type 0} → Around H → TextForm → Reach → InputOf → Writing → ℕ → Type 0
+EndsReachBy a form words zone o status = (outcome : Result Findings ReachFault)
+    × IsReachChecked words form (named a words.policy.now) zone o.old o.new outcome o.before o.after × (status ≡ check_status_of outcome)
 
 -- that is the input that a path names: standard input, if it is `-` or none is given, or a file
-abbrev pub EndsReach : {H : Type 0} → Around H → Reading → TextForm → List ℕ → List ℕ → Bor (List ℕ) → Option (List ℕ) → Writing → ℕ → Type 0
-EndsReach a i form policy caller origin path o status =
-    ((unwrap_or path (codes "-") ≢ codes "-") × IsUnread i × EndsReachBy a form policy caller origin (named a (unwrap_or path (codes "-"))) o status)
-    ⊎ ((unwrap_or path (codes "-") ≡ codes "-") × EndsReachBy a form policy caller origin (standard i) o status)
+abbrev pub EndsReach : {H : Type 0} → Around H → Reading → TextForm → Reach → Writing → ℕ → Type 0
+EndsReach a i form words o status =
+    let path = unwrap_or (option_map (λ f. f.now) words.file) (codes "-") in
+    ((path ≢ codes "-") × IsUnread i × EndsReachBy a form words (named a path) o status)
+    ⊎ ((path ≡ codes "-") × EndsReachBy a form words (standard i) o status)
 
 -- What a diff prints of the zones of two files: a path that is `-` is standard input, of which nothing is left for the second file where the
 -- first is it too. Where neither is, standard input is not read.
@@ -224,7 +227,7 @@ SubjectEnds a i o form (check.Isolation policy caller) status =
     IsUnread i × EndsCheck (asked (Isolation caller) form) (a.file policy.now) ⊤ (a.unreadable policy.now) o status
 SubjectEnds a i o form (check.Rights policy name) status =
     IsUnread i × EndsCheck (asked (Rights name) form) (a.file policy.now) ⊤ (a.unreadable policy.now) o status
-SubjectEnds a i o form (check.Reach policy caller origin file) status = EndsReach a i form policy.now caller.now origin (option_map (λ f. f.now) file) o status
+SubjectEnds a i o form (check.Reach w) status = EndsReach a i form w o status
 SubjectEnds a i o form (check.Zone origin rules) status = EndsCheck (asked (Zone origin rules) form) i.left (i.after ≡ i.before) (i.before < i.after) o status
 
 abbrev pub CheckEnds : {H : Type 0} → Around H → Reading → Writing → Check → ℕ → Type 0
@@ -250,6 +253,7 @@ TextJobEnds a i o (text_job.Check w) status = CheckEnds a i o w status
 TextJobEnds a i o (text_job.Policy w) status = EndsPolicyText a i o w status
 TextJobEnds a i o (text_job.Answer w) status = AnswerEnds a i w o status
 TextJobEnds a i o (text_job.Reverse w) status = EndsCheckOf a i (asked (Reverse w.origin) Plain) w.file.now o status
+TextJobEnds a i o (text_job.Split w) status = EndsTaskOf a i w.file.now (part_printed w.part w.origin.now) o status
 TextJobEnds a i o (text_job.Explain w) status =
     IsUnread i × EndsTask ended.left ended.fine ended.failed (explain_text (option_map (λ n. n.now) w.number) w.form) o status
 

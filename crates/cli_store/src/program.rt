@@ -25,7 +25,7 @@ use cli_checks::{
 };
 use cli_core::{
     Answer, Check, CheckSubject, DiffForm, ImportList, Input, Job, JobFault, NO_MEMORY_LINE,
-    PlanForm, PolicyText, RequestForm, StoreJob, TextForm, TextJob, WordsFault, ZoneFiles,
+    PlanForm, PolicyText, Reach, RequestForm, StoreJob, TextForm, TextJob, WordsFault, ZoneFiles,
     read_words, write_text,
 };
 use cli_text::{AnswerFault, Apply, Task, do_answers};
@@ -261,47 +261,39 @@ fn policy_zones<M: Surroundings, R: Source, W: Sink>(
 /// Writes which answers of a zone the policy of a path lets a caller change, by an input.
 fn reach_of<M: Surroundings, N: Input, W: Sink>(
     around: &M,
-    what: (&str, &str, &str, TextForm),
+    what: (Reach<'_>, TextForm),
     zone: &mut N,
     output: &mut W,
 ) -> ExitCode
-    ensures { EndsReachBy (M.around around.now) what.entry.3 what.entry.0.now what.entry.1.now what.entry.2
+    ensures { EndsReachBy (M.around around.now) what.entry.1 what.entry.0
         (record { left = N.left zone.old; fine = N.fine zone.old zone.new; failed = N.failed zone.old zone.new })
         (record { old = W.contents output.old; new = W.contents output.new; before = W.failures output.old; after = W.failures output.new })
         (exit_status result) }
 {
-    let (policy, caller, origin, form) = what;
     let mut policy = NamedFile {
         around,
-        path: policy,
+        path: what.0.policy,
     };
     check_status(
         around,
-        do_reach(
-            around.alloc(),
-            (caller, origin, form),
-            &mut policy,
-            zone,
-            output,
-        ),
+        do_reach(around.alloc(), what, &mut policy, zone, output),
     )
 }
 
 /// The same by the zone that a path names: standard input, if it is `-` or none is given, or a file.
 fn reach<M: Surroundings, R: Source, W: Sink>(
     around: &M,
-    what: (&str, &str, &str, TextForm),
-    file: Option<&str>,
+    what: (Reach<'_>, TextForm),
     input: &mut R,
     output: &mut W,
 ) -> ExitCode
     ensures { EndsReach (M.around around.now)
         (record { left = R.remaining input.old; rest = R.remaining input.new; before = R.failures input.old; after = R.failures input.new })
-        what.entry.3 what.entry.0.now what.entry.1.now what.entry.2 (option_map (λ f. f.now) file.entry)
+        what.entry.1 what.entry.0
         (record { old = W.contents output.old; new = W.contents output.new; before = W.failures output.old; after = W.failures output.new })
         (exit_status result) }
 {
-    let path = file.unwrap_or("-");
+    let path = what.0.file.unwrap_or("-");
     if is_standard(path) {
         return reach_of(around, what, input, output);
     }
@@ -334,30 +326,17 @@ fn check_job<M: Surroundings, R: Source, W: Sink>(
         CheckSubject::Expect { policy, file } => {
             expect(around, (policy, form), file, input, output)
         }
-        CheckSubject::Reach {
-            policy,
-            caller,
-            origin,
-            file,
-        } => reach(around, (policy, caller, origin, form), file, input, output),
+        CheckSubject::Reach(words) => reach(around, (words, form), input, output),
         CheckSubject::Isolation { policy, caller } => {
-            check_file(
-                around,
-                asked(Subject::Isolation(caller), form),
-                policy,
-                output,
-            )
+            let wanted = asked(Subject::Isolation(caller), form);
+            check_file(around, wanted, policy, output)
         }
         CheckSubject::Rights { policy, name } => {
             check_file(around, asked(Subject::Rights(name), form), policy, output)
         }
         CheckSubject::Zone { origin, rules } => {
-            check(
-                around,
-                asked(Subject::Zone(origin, rules), form),
-                input,
-                output,
-            )
+            let wanted = asked(Subject::Zone(origin, rules), form);
+            check(around, wanted, input, output)
         }
     }
 }
@@ -579,6 +558,7 @@ pub fn do_text_job<M: Surroundings, R: Source, W: Sink>(
             let wanted = asked(Subject::Reverse(words.origin), TextForm::Plain);
             check_of(around, wanted, words.file, input, output)
         }
+        TextJob::Split(words) => do_task_of(around, words, words.file, input, output),
         TextJob::Explain(words) => do_task(around, words, &mut Ended, output),
     }
 }

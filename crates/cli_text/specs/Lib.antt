@@ -1,4 +1,5 @@
 pub mod Canon
+pub mod Parting
 pub mod RecordLines
 pub mod LineObjects
 pub mod Parts

@@ -11,6 +11,7 @@ mod changed_answers;
 mod explain;
 mod laws;
 mod line_objects;
+mod parting;
 mod parts;
 mod query_type;
 mod questions;

@@ -6,12 +6,12 @@ ghost use Rattle.clap.specs.Words.{first_of, found_of, rows_of};
 ghost use Rattle.cli_core.specs.declared.argument.Argument.TheVariants as argument;
 ghost use Rattle.cli_core.specs.Commands.{argument_name};
 ghost use Rattle.cli_core.specs.Values.{flag_if};
-ghost use Rattle.cli_core.specs.Jobs.{check_job, has_examples, is_wanted};
+ghost use Rattle.cli_core.specs.Jobs.{check_job, is_wanted, reach_content_by};
 ghost use Rattle.cli_core.specs.Words.{check_by, json_given};
 
 use crate::argument::Argument;
 use crate::commands::{CommandWords, Row};
-use crate::job::{Advice, Job, ReachForm, RuleChoice, TextForm, TextJob, ZoneRules};
+use crate::job::{Advice, Job, ReachContent, RuleChoice, TextForm, TextJob, ZoneRules};
 use crate::matched::{flag_at, number_at, text_at, text_form_at, texts_at};
 use clap::ArgMatches;
 
@@ -22,6 +22,21 @@ pub struct Check<'a> {
     pub subject: CheckSubject<'a>,
     /// As what the findings are printed.
     pub form: TextForm,
+}
+
+/// The words of `check reach`.
+#[derive(Clone, Copy)]
+pub struct Reach<'a> {
+    /// The path of the policy.
+    pub policy: &'a str,
+    /// Who changes answers.
+    pub caller: &'a str,
+    /// The name of the zone's origin.
+    pub origin: &'a str,
+    /// The path of the zone, and standard input where none is given.
+    pub file: Option<&'a str>,
+    /// What is printed of the answers.
+    pub content: ReachContent,
 }
 
 /// What `check` checks.
@@ -58,18 +73,7 @@ pub enum CheckSubject<'a> {
         name: Option<&'a str>,
     },
     /// To print which answers of a zone a caller of a policy can change.
-    Reach {
-        /// The path of the policy.
-        policy: &'a str,
-        /// Who changes them.
-        caller: &'a str,
-        /// The name of the zone's origin.
-        origin: &'a str,
-        /// The path of the zone, and standard input where none is given.
-        file: Option<&'a str>,
-        /// What is printed of them.
-        form: ReachForm,
-    },
+    Reach(Reach<'a>),
     /// To find what is expected of a policy and is not so.
     Expect {
         /// The path of the policy.
@@ -181,32 +185,36 @@ fn expect_in<'a>(matches: &ArgMatches<'a>) -> Option<CheckSubject<'a>>
     Some(CheckSubject::Expect { policy, file })
 }
 
-/// What is to be printed of the answers that a caller can change.
-fn reach_form_at(matches: &ArgMatches<'_>) -> ReachForm
-    ensures { has_examples result ≡ flag_if (first_of (argument_name argument.Example) (rows_of (found_of matches.now))) }
+/// What is to be printed of the answers that a caller can change, unless that is examples as JSON.
+fn reach_content_at(matches: &ArgMatches<'_>) -> Option<ReachContent>
+    ensures { result ≡ reach_content_by (flag_if (first_of (argument_name argument.Example) (rows_of (found_of matches.now))))
+        (flag_if (first_of (argument_name argument.Json) (rows_of (found_of matches.now)))) }
 {
-    if flag_at(matches, Argument::Example) {
-        ReachForm::Examples
-    } else {
-        ReachForm::Groups
+    match (
+        flag_at(matches, Argument::Example),
+        flag_at(matches, Argument::Json),
+    ) {
+        (false, _) => Some(ReachContent::Groups),
+        (true, false) => Some(ReachContent::Examples),
+        (true, true) => None,
     }
 }
 
-/// The subject of `check reach`.
+/// The subject of `check reach`, unless examples are asked for as JSON.
 fn reach_in<'a>(matches: &ArgMatches<'a>) -> Option<CheckSubject<'a>>
     ensures { option_map (λ s. check_job s (json_given (rows_of (found_of matches.now)))) result ≡ check_by (codes "reach") (rows_of (found_of matches.now)) }
 {
     let file = text_at(matches, Argument::CheckedName);
     let (policy, caller) = texts_at(matches, Argument::CheckedPolicy, Argument::Isolated)?;
     let origin = text_at(matches, Argument::CheckedOrigin)?;
-    let form = reach_form_at(matches);
-    Some(CheckSubject::Reach {
+    let content = reach_content_at(matches)?;
+    Some(CheckSubject::Reach(Reach {
         policy,
         caller,
         origin,
         file,
-        form,
-    })
+        content,
+    }))
 }
 
 /// Whether shared addresses are asked for.

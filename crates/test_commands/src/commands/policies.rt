@@ -6,7 +6,7 @@ use cli_checks::{
     ChangesFault, ExpectFault, Findings, PolicyZonesFault, ReachFault, do_changes, do_expect,
     do_policy_zones, do_reach,
 };
-use cli_core::TextForm;
+use cli_core::{Reach, ReachContent, TextForm};
 use dns_master::{Sink, Source};
 use std::alloc::{AllocError, Global};
 use std::fmt::Display;
@@ -90,6 +90,7 @@ impl Trial for Beside<'_> {
 struct Reaches<'a> {
     caller: &'a str,
     origin: &'a str,
+    content: ReachContent,
     form: TextForm,
 }
 
@@ -103,8 +104,23 @@ impl Trial for Reaches<'_> {
         second: &mut N,
         writer: &mut W,
     ) -> Result<Findings, ReachFault> {
-        let what = (self.caller, self.origin, self.form);
-        do_reach(alloc, what, first, second, writer)
+        let words = Reach {
+            policy: "policy",
+            caller: self.caller,
+            origin: self.origin,
+            file: None,
+            content: self.content,
+        };
+        do_reach(alloc, (words, self.form), first, second, writer)
+    }
+}
+
+/// What the verb of a row has printed of the answers that a caller can change.
+fn content_of(verb: &str) -> ReachContent {
+    if verb.starts_with("reach-example") {
+        ReachContent::Examples
+    } else {
+        ReachContent::Groups
     }
 }
 
@@ -214,9 +230,11 @@ fn push_reached(
     let (caller, origin) = text.split_once('|').unwrap_or((text, ""));
     let devices = devices_of(alloc, row, manners)?;
     let form = form_of(row.verb);
+    let content = content_of(row.verb);
     let reaches = Reaches {
         caller,
         origin,
+        content,
         form,
     };
     let (printed, done) = tried(alloc, reaches, devices);
