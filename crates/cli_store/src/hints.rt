@@ -3,7 +3,7 @@
 use crate::beginning::Beginning;
 use crate::kept_files::KeptFile;
 use crate::surroundings::Surroundings;
-use cli_core::{Check, CheckSubject, Job, StoreJob, TextJob, read_words};
+use cli_core::{Check, CheckSubject, Job, Reach, StoreJob, TextJob, read_words};
 use dns_data::{DataFault, RecordType};
 use dns_master::{MasterFault, Token, read_file, tokens};
 use dns_names::Name;
@@ -56,13 +56,11 @@ fn type_on_line<'a>(text: &[u8], items: &[Token<'a>], line: usize) -> Option<&'a
 
 /// Says that a type on a line is not kept, or that data of it in the generic form are not.
 fn tell_type<M: Surroundings>(around: &M, line: usize, name: &str) {
-    let form = match RecordType::read(name.as_bytes()) {
-        Ok(_) => " in the generic form (RFC 3597)",
-        Err(_) => "",
+    let why = match RecordType::read(name.as_bytes()) {
+        Ok(_) => " in the generic form (RFC 3597) is not kept",
+        Err(_) => " is not kept; zoneoffice split puts such records aside",
     };
-    if let Ok(words) = format!(in around.alloc();
-        "zoneoffice: line {line}: {name}{form} is not kept"
-    ) {
+    if let Ok(words) = format!(in around.alloc(); "zoneoffice: line {line}: {name}{why}") {
         around.say(words.as_str());
     }
 }
@@ -126,7 +124,8 @@ fn text_origin(job: TextJob<'_>) -> Option<&str> {
         TextJob::Diff(words) => Some(words.origin),
         TextJob::Check(
             Check {
-                subject: CheckSubject::Zone { origin, .. } | CheckSubject::Reach { origin, .. },
+                subject: CheckSubject::Zone { origin, .. }
+                | CheckSubject::Reach(Reach { origin, .. }),
                 ..
             },
         ) => Some(origin),

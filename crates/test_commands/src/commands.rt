@@ -46,7 +46,9 @@ pub fn push_command_answer(
         verb if is_plan(verb) => push_plan(alloc, row, answer),
         "expect" | "expect-json" | "expect-reads" => push_expect(alloc, row, answer),
         "beside" | "beside-json" | "beside-reads" => push_zones(alloc, row, answer),
-        "reach" | "reach-json" | "reach-reads" | "reach-write" => push_reach(alloc, row, answer),
+        "reach" | "reach-json" | "reach-example" | "reach-reads" | "reach-write" => push_reach(
+            alloc, row, answer,
+        ),
         "against" | "against-json" | "against-reads" | "against-write" => {
             push_against(alloc, row, answer)
         }
