@@ -1,11 +1,12 @@
 //! What the words of a command line ask for.
 
 use cli_core::{
-    Advice, Answer, CheckSubject, DiffContent, Existing, GuardScope, ItemForm, Job, LogChoice,
-    PlanForm, PlanLines, PlanObject, PolicySource, PolicyText, QuestionWords, RequestForm,
-    RuleChoice, Service, StoreJob, StoredZone, TextForm, TextJob, WordsFault, ZoneFiles, ZoneForm,
-    ZoneRules, read_words,
+    Advice, Answer, BlameForm, CheckSubject, DiffContent, Existing, GuardScope, ItemForm, Job,
+    LogChoice, PlanForm, PlanLines, PlanObject, PolicySource, PolicyText, QuestionWords, Reach,
+    ReachContent, RequestForm, RuleChoice, Service, Split, StoreJob, StoredZone, TextForm, TextJob,
+    WordsFault, ZoneFiles, ZoneForm, ZoneRules, read_words,
 };
+use dns_master::FilePart;
 use std::alloc::{AllocError, Global};
 use test_rows::Row;
 
@@ -111,6 +112,7 @@ fn push_text_job(alloc: Global, job: &TextJob<'_>, answer: &mut Vec<u8>) -> Resu
         TextJob::Reverse(words) => {
             push_all(&["reverse (", words.origin, ") (", words.file, ")"], answer)
         }
+        TextJob::Split(words) => push_part(words, answer),
         TextJob::Explain(words) => push_explain(words.number, words.form, answer),
     }
 }
@@ -151,6 +153,32 @@ fn push_with(texts: &[&str], given: Option<&str>, answer: &mut Vec<u8>) -> Resul
     push_if_given(given, answer)
 }
 
+/// Appends of which answers it is asked whether a caller can change them.
+fn push_reach(words: &Reach<'_>, answer: &mut Vec<u8>) -> Result<(), AllocError> {
+    let (policy, caller, origin) = (words.policy, words.caller, words.origin);
+    let texts = ["check reach (", policy, ") (", caller, ") (", origin, ")"];
+    push_with(&texts, words.file, answer)?;
+    match words.content {
+        ReachContent::Groups => Ok(()),
+        ReachContent::Examples => push(" examples", answer),
+    }
+}
+
+/// The word of a part.
+const fn part_text(part: FilePart) -> &'static str {
+    match part {
+        FilePart::Kept => " kept",
+        FilePart::Signer => " signer",
+        FilePart::Rest => " rest",
+    }
+}
+
+/// Appends which part of a master file is printed.
+fn push_part(words: &Split<'_>, answer: &mut Vec<u8>) -> Result<(), AllocError> {
+    push_all(&["split (", words.origin, ") (", words.file, ")"], answer)?;
+    push(part_text(words.part), answer)
+}
+
 fn push_check(
     alloc: Global,
     subject: &CheckSubject<'_>,
@@ -174,15 +202,7 @@ fn push_check(
         CheckSubject::Isolation { policy, caller } => {
             push_all(&["check isolation (", policy, ") (", caller, ")"], answer)
         }
-        CheckSubject::Reach {
-            policy,
-            caller,
-            origin,
-            file,
-        } => {
-            let texts = ["check reach (", policy, ") (", caller, ") (", origin, ")"];
-            push_with(&texts, *file, answer)
-        }
+        CheckSubject::Reach(words) => push_reach(words, answer),
         CheckSubject::Rights { policy, name } => {
             push_with(&["check rights (", policy, ")"], *name, answer)
         }
@@ -190,6 +210,14 @@ fn push_check(
             push_all(&["check zone (", origin, ")"], answer)?;
             push_zone_rules(alloc, rules, answer)
         }
+    }
+}
+
+/// The word of what records are printed with.
+const fn blame_text(form: BlameForm) -> &'static str {
+    match form {
+        BlameForm::Changes => "",
+        BlameForm::Receipts => " receipts",
     }
 }
 
@@ -216,7 +244,7 @@ fn push_store_job(
         StoreJob::Zones(words) => push_given("zones", words.store, "", answer),
         StoreJob::Log(words) => push_log(alloc, &words.zone, &words.choice, answer),
         StoreJob::Blame(words) => {
-            push_zone("blame", &words.zone, "", answer)?;
+            push_zone("blame", &words.zone, blame_text(words.form), answer)?;
             push_named(" name", words.name, answer)
         }
         StoreJob::Undo(words) => {

@@ -8,7 +8,7 @@ use cli_core::{
 };
 use cli_text::{Apply, Task};
 use cli_updates::{Request, Split};
-use dns_master::{Pieces, Sink, Source};
+use dns_master::{FilePart, Pieces, Sink, Source};
 use std::alloc::{AllocError, Global};
 
 /// How a device works.
@@ -68,6 +68,11 @@ impl Command<'_> {
                 self.run_task(alloc, question_in(words, form), reading, writing)
             }
             "explain" => self.run_task(alloc, asked(words), reading, writing),
+            "part-kept" => self.run_task(alloc, part(FilePart::Kept, words), reading, writing),
+            "part-rest" => self.run_task(alloc, part(FilePart::Rest, words), reading, writing),
+            "part-signer" => {
+                self.run_task(alloc, part(FilePart::Signer, words), reading, writing)
+            }
             "check" | "check-json" => self.run_check(alloc, Subject::Rules, reading, writing),
             "reverse" => self.run_check(alloc, Subject::Reverse(words), reading, writing),
             "build" => {
@@ -186,6 +191,15 @@ fn zones_in(words: &str) -> Option<&str> {
 /// The task `canon` for an origin.
 fn canon(origin: &str, form: ZoneForm) -> Canon<'_> {
     Canon { origin, form }
+}
+
+/// The task `split` for a part and an origin.
+const fn part(part: FilePart, origin: &str) -> cli_core::Split<'_> {
+    cli_core::Split {
+        origin,
+        file: "-",
+        part,
+    }
 }
 
 /// What words with bars between them ask of a policy.
