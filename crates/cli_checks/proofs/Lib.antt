@@ -4,3 +4,4 @@ pub mod OriginLaws
 pub mod CheckLemmas
 pub mod PrintedLemmas
 pub mod ReportTextLemmas
+pub mod ReachAskLaws

@@ -13,3 +13,4 @@ pub mod PolicyChangeAnswers
 pub mod ExpectAnswers
 pub mod PolicyZoneAnswers
 pub mod ReachAnswers
+pub mod ReachAsks

@@ -22,7 +22,7 @@ pub use changes_fault::ChangesFault;
 pub use check::{AskedCheck, Findings, Subject, do_check, name_if};
 pub use expect::do_expect;
 pub use expect_fault::ExpectFault;
-pub use laws::lists_are_read;
+pub use laws::{lists_are_read, reach_asks_as_the_office};
 pub use policy_changes::do_changes;
 pub use policy_zones::do_policy_zones;
 pub use policy_zones_fault::PolicyZonesFault;
