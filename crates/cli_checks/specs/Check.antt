@@ -28,6 +28,7 @@ use Rattle.cli_checks.specs.declared.check.AskedCheck.{AskedCheck}
 use Rattle.cli_text.specs.declared.line_objects.LineKind.{LineKind}
 use Rattle.cli_text.specs.declared.line_objects.LineKind.TheVariants as kind
 use Rattle.cli_text.specs.LineObjects.{IsPrintedAs}
+use Rattle.cli_core.specs.declared.job.ReachContent.TheVariants.{Groups, Examples}
 use Rattle.cli_core.specs.declared.refusal.Refusal.{Refusal}
 use Rattle.cli_core.specs.declared.refusal.Refusal.TheVariants.{NoCaller}
 use Rattle.cli_core.specs.declared.line_fault.LineFault.{LineFault}
@@ -46,6 +47,7 @@ use Rattle.cli_checks.specs.OriginLists.{origins_of}
 use Rattle.cli_checks.specs.PolicyZones.{IsZonesReport}
 use Rattle.cli_checks.specs.PrintedPolicies.{zones_if, printed_from, IsPolicyText}
 use Rattle.cli_checks.specs.Reach.{IsReachReport}
+use Rattle.cli_checks.specs.ReachExamples.{IsExamplesReport}
 use Rattle.cli_checks.specs.ReportLines.{id_text, right_text, other_text}
 use Rattle.cli_core.specs.LineFaults.{◌>>=◌, or_refused, limited, of_names, of_policies, Makes, ReachesInput}
 use Rattle.cli_core.specs.Refusals.{refused_line}
@@ -72,7 +74,7 @@ asked_in (subject.Isolation word) = or_refused (identifier_of word.now) NoCaller
 asked_in (subject.Rights word) = name_if (option_map (λ w. w.now) word) >>= λ name. Ok (asked.Rights name)
 asked_in (subject.Printed source word) = zones_if (option_map (λ w. w.now) word) >>= λ zones. Ok (asked.Printed source zones)
 asked_in (subject.Reverse word) = of_names (absolute_name word.now) >>= λ origin. Ok (asked.Reverse origin)
-asked_in (subject.Reach policy caller words) = of_names (absolute_name words.origin.now) >>= λ origin. Ok (asked.Reach policy caller origin)
+asked_in (subject.Reach policy caller words) = of_names (absolute_name words.origin.now) >>= λ origin. Ok (asked.Reach policy caller words.content origin)
 asked_in (subject.Zone origin rules) = tests_of rules >>= λ tests. of_names (absolute_name origin.now) >>= λ name. Ok (asked.Zone name tests)
 
 -- what that is in an input: a policy, expectations, a list of zones, or the files of zones
@@ -85,7 +87,7 @@ checking_of (asked.Isolation caller) text = rules_in text >>= λ rules. Ok (chec
 checking_of (asked.Rights name) text = rules_in text >>= λ rules. Ok (checking.Rights name rules)
 checking_of (asked.Printed source zones) text = printed_from source zones text >>= λ printed. Ok (checking.Printed printed)
 checking_of (asked.Reverse origin) text = records_of text >>= λ records. Ok (checking.Reverse origin records)
-checking_of (asked.Reach policy caller origin) text = zone_of_file origin text >>= λ zone. Ok (checking.Reach policy caller zone)
+checking_of (asked.Reach policy caller content origin) text = zone_of_file origin text >>= λ zone. Ok (checking.Reach policy caller content zone)
 checking_of (asked.Zone origin tests) text = zone_of_file origin text >>= λ zone. Ok (checking.Zone zone tests)
 
 -- the words are read first, and then the input
@@ -152,10 +154,11 @@ IsReportOn (checking.Isolation caller rules) findings text = IsIsolationReport r
 IsReportOn (checking.Rights name rules) findings text = IsRightsText name rules text × (findings ≡ Absent)
 IsReportOn (checking.Printed printed) findings text = IsPolicyText printed findings text
 IsReportOn (checking.Reverse origin records) findings text = IsReverseReport origin records findings text
-IsReportOn (checking.Reach policy caller zone) findings text = IsReachReport policy.now caller.now zone findings text
+IsReportOn (checking.Reach policy caller Groups zone) findings text = IsReachReport policy.now caller.now zone findings text
+IsReportOn (checking.Reach policy caller Examples zone) findings text = IsExamplesReport policy.now caller.now zone findings text
 IsReportOn (checking.Zone zone tests) findings text = IsZoneReport zone tests findings text
 
--- of what the lines of a report are
+-- of what the lines of a report are; those of examples are no questions, and so whole lines as JSON
 abbrev pub kind_of : Checking → LineKind
 kind_of (checking.Rules rules) = kind.IdleRules
 kind_of (checking.Changes old rules) = kind.Changes
@@ -165,7 +168,8 @@ kind_of (checking.Isolation caller rules) = kind.Isolation
 kind_of (checking.Rights name rules) = kind.Rights
 kind_of (checking.Printed printed) = kind.Others
 kind_of (checking.Reverse origin records) = kind.Others
-kind_of (checking.Reach policy caller zone) = kind.Questions
+kind_of (checking.Reach policy caller Groups zone) = kind.Questions
+kind_of (checking.Reach policy caller Examples zone) = kind.Others
 kind_of (checking.Zone zone tests) = kind.Findings
 
 -- the report on what is read, as lines or as their objects

@@ -8,6 +8,7 @@ pub mod PrintedPolicies
 pub mod Reverse
 pub mod PolicyChanges
 pub mod Reach
+pub mod ReachExamples
 pub mod Check
 pub mod PolicyChangeAnswers
 pub mod ExpectAnswers

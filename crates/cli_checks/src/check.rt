@@ -17,11 +17,12 @@ use crate::policy_changes::changes_report;
 use crate::policy_zones::zones_report;
 use crate::printed_policy::{PrintedPolicy, WantedZones, policy_report, printed_in, zones_if};
 use crate::reach::{index_of_file, reach_report};
+use crate::reach_examples::examples_report;
 use crate::reverse::{ForwardRecords, forward_records, reverse_report};
 use crate::rights_check::rights_list;
 use crate::zone_check::{ZoneTests, tests_of, zone_report};
 use cli_core::{
-    Input, JobFault, LineFault, PolicySource, Reach, TextForm, ZoneRules, read_input,
+    Input, JobFault, LineFault, PolicySource, Reach, ReachContent, TextForm, ZoneRules, read_input,
     write_refusal, write_text,
 };
 use cli_text::{LineKind, in_form, read_caller, read_name, zone_of_file};
@@ -87,7 +88,7 @@ enum Asked<'a> {
     Rights(Option<Name>),
     Printed(PolicySource, WantedZones),
     Reverse(Name),
-    Reach(&'a Policy, &'a Identifier, Name),
+    Reach(&'a Policy, &'a Identifier, ReachContent, Name),
     Zone(Name, ZoneTests),
 }
 
@@ -102,7 +103,7 @@ enum Checking<'a> {
     Rights(Option<Name>, Policy),
     Printed(PrintedPolicy),
     Reverse(Name, ForwardRecords),
-    Reach(&'a Policy, &'a Identifier, ZoneIndex),
+    Reach(&'a Policy, &'a Identifier, ReachContent, ZoneIndex),
     Zone(Zone, ZoneTests),
 }
 
@@ -145,7 +146,8 @@ fn asked_in<'a>(alloc: Global, subject: Subject<'a>) -> Result<Asked<'a>, LineFa
         Subject::Printed(source, zones) => Ok(Asked::Printed(source, zones_if(alloc, zones)?)),
         Subject::Reverse(word) => Ok(Asked::Reverse(read_name(alloc, word)?)),
         Subject::Reach(policy, caller, words) => {
-            Ok(Asked::Reach(policy, caller, read_name(alloc, words.origin)?))
+            let origin = read_name(alloc, words.origin)?;
+            Ok(Asked::Reach(policy, caller, words.content, origin))
         }
         Subject::Zone(origin, rules) => zone_asked(alloc, origin, rules),
     }
@@ -182,11 +184,10 @@ fn checking_of<'a>(
             let forward = forward_records(alloc, text)?;
             Ok(Checking::Reverse(origin, forward))
         }
-        Asked::Reach(policy, caller, origin) => Ok(Checking::Reach(
-            policy,
-            caller,
-            index_of_file(alloc, origin, text)?,
-        )),
+        Asked::Reach(policy, caller, content, origin) => {
+            let index = index_of_file(alloc, origin, text)?;
+            Ok(Checking::Reach(policy, caller, content, index))
+        }
         Asked::Zone(origin, tests) => {
             Ok(Checking::Zone(zone_of_file(alloc, origin, text)?, tests))
         }
@@ -391,7 +392,12 @@ fn report_on(alloc: Global, checking: &Checking<'_>) -> Result<Report, AllocErro
         Checking::Rights(name, policy) => rights_report(alloc, policy, name),
         Checking::Printed(printed) => policy_report(alloc, printed),
         Checking::Reverse(origin, forward) => reverse_report(alloc, origin, forward),
-        Checking::Reach(policy, caller, index) => reach_report(alloc, policy, caller, index),
+        Checking::Reach(policy, caller, ReachContent::Groups, index) => {
+            reach_report(alloc, policy, caller, index)
+        }
+        Checking::Reach(policy, caller, ReachContent::Examples, index) => {
+            examples_report(alloc, policy, caller, index)
+        }
         Checking::Zone(zone, tests) => zone_report(alloc, zone, *tests),
     }
 }
@@ -407,8 +413,10 @@ const fn kind_of(checking: &Checking<'_>) -> LineKind
         Checking::Zones(..) => LineKind::Zones,
         Checking::Isolation(..) => LineKind::Isolation,
         Checking::Rights(..) => LineKind::Rights,
-        Checking::Printed(_) | Checking::Reverse(..) => LineKind::Others,
-        Checking::Reach(..) => LineKind::Questions,
+        Checking::Reach(_, _, ReachContent::Groups, _) => LineKind::Questions,
+        Checking::Printed(_)
+        | Checking::Reverse(..)
+        | Checking::Reach(_, _, ReachContent::Examples, _) => LineKind::Others,
         Checking::Zone(..) => LineKind::Findings,
     }
 }

@@ -13,6 +13,7 @@ mod policy_zones;
 mod policy_zones_fault;
 mod printed_policy;
 mod reach;
+mod reach_examples;
 mod reach_fault;
 mod reverse;
 mod rights_check;

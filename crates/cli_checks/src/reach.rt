@@ -33,7 +33,7 @@ pub(crate) fn index_of_file(
 }
 
 /// Appends the line of a row. The only error is out of memory.
-fn push_row(text: &mut String, row: &ReachedAnswers) -> Result<(), AllocError>
+pub(crate) fn push_row(text: &mut String, row: &ReachedAnswers) -> Result<(), AllocError>
     ensures { OnOk result (string_bytes text.new ≡ string_bytes text.old ++ reached_line row.now) }
 {
     match &row.names {
@@ -71,10 +71,12 @@ pub(crate) fn reach_report(
 /// Writes which answers of a zone a caller can change, by any updates that a policy lets it make, in whatever order, nobody else acting: a
 /// line for each group of names, in canonical order: `at` and a name, or `below` and a name, for those below it that are neither at nor
 /// below a nearer one that exists, is above the target of an alias, or is that of a rule; and the types of the questions, or `*` for all. A
-/// question that no line has is answered as it is, whatever the caller does; that of a line may be answered otherwise, or not. Two inputs
-/// are the policy and, read after it, the master file of the zone of this origin. Otherwise one line tells the refusal that comes first: of
-/// the caller; that the policy is too large, or what is wrong in it; of the origin, that the zone is too large, of the master file, of its
-/// records as a zone.
+/// question that no line has is answered as it is, whatever the caller does; that of a line may be answered otherwise, or not. Where
+/// examples are asked for, lines after two spaces follow each of these: `ask`, a name of the group and one of the types, and then the
+/// operations of an update of the zone as it is that the policy lets the caller make, and after which this question is answered otherwise;
+/// or `none found`, though there may be such an update. Two inputs are the policy and, read after it, the master file of the zone of this
+/// origin. Otherwise one line tells the refusal that comes first: of the caller; that the policy is too large, or what is wrong in it; of
+/// the origin, that the zone is too large, of the master file, of its records as a zone.
 pub fn do_reach<R: Input, N: Input, W: Sink>(
     alloc: Global,
     what: (Reach<'_>, TextForm),
