@@ -1,5 +1,6 @@
 use Rattle.std.proofs.lemmas.Result.{err_from_is_err_and}
-use Rattle.cli_updates.specs.Plan.{asker_in, asker_of, caller_in}
+use Rattle.cli_text.specs.Rights.{caller_in}
+use Rattle.cli_updates.specs.Plan.{asker_in, asker_of}
 use Rattle.cli_core.proofs.StepLemmas.{words_refused, input_refused, made_of}
 use Rattle.cli_updates.proofs.plan.read_asker.Goals as goal
 
