@@ -13,6 +13,7 @@ pub mod LoggedLemmas
 pub mod HistoryLemmas
 pub mod RemovalLemmas
 pub mod BlameLemmas
+pub mod BlameReceiptLemmas
 pub mod StreamLemmas
 pub mod ServedLemmas
 pub mod ProgramLemmas

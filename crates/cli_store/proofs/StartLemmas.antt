@@ -19,6 +19,8 @@ use Rattle.office_wire.specs.Lifetimes.{Lifetime, IsLeftBy, AreAcknowledged, IsH
 use Rattle.office_wire.proofs.CrashLemmas.{crashes_leave_one_more}
 use Rattle.office_wire.proofs.LifetimeLemmas.{histories_are_one}
 use Rattle.cli_core.specs.LineFaults.{Makes, of_names, of_store}
+use Rattle.cli_core.specs.declared.job.BlameForm.{BlameForm}
+use Rattle.cli_core.specs.declared.job.BlameForm.TheVariants.{Changes, Receipts}
 use Rattle.cli_core.specs.declared.job.ZoneForm.{ZoneForm}
 use Rattle.cli_core.specs.declared.refusal.Refusal.{Refusal}
 use Rattle.cli_core.specs.declared.commands.import.ImportList.{ImportList}
@@ -48,7 +50,8 @@ use Rattle.wire_tcp.specs.Limits.{Limits}
 use Rattle.cli_store.specs.Serve.{TableAt, policy_read, most_of, parties_of, limits_by, asked_by, IsServiceTold, IsServedBy, BeginsBy, Serves}
 use Rattle.cli_store.specs.StoreList.{IsListRead, ZonesPrinted}
 use Rattle.cli_store.specs.StoreLog.{IsLogged, IsLogRead, LogPrinted}
-use Rattle.cli_store.specs.ZoneHistory.{blame_asked, blame_text, past_text, undo_text, BlamePrinted, ExportEnds, IsHistoryRead, IsToldOf, UndoPrinted}
+use Rattle.cli_store.specs.BlameReceipts.{AreReceiptsRead, AreReceiptsTold, BlameEnds}
+use Rattle.cli_store.specs.ZoneHistory.{blame_asked, blame_text, past_text, undo_text, ExportEnds, IsHistoryRead, IsToldOf, UndoPrinted}
 use Rattle.cli_store.specs.Stores.{StoresOf, IsRead, IsPut, IsUnopened, IsReached, IsUnreached, IsStored, IsGot, IsMigratedStore, stores_of}
 use Rattle.cli_store.specs.Starts.{HasState, held, Deed, put, took, state_after_deeds, called_by, Setting, Start, IsStart, MayFollow, AreStarts, Course, deeds_of, IsNothing, IsZoneMade, IsZoneInHand, IsZoneRefused, IsZoneRemoved, IsRemovalRefused, deeds_in, AreZonesMade, AreNoneMade, IsUnserved, moment_of, IsServed, JobMakes, IsCourse, AreCourses, history, StartsHaveOneHistory}
 use Rattle.cli_store.proofs.DeedLemmas.{after_more, called_are, called_more}
@@ -470,6 +473,19 @@ module _ {A F C H P : Type 0} (w : Setting A F C H P) (law : (conn : C) → Sett
     told_of path words origin answer (Err fault) (inr (asked, e, inl (known, holds, none))) = got path (IsHistoryRead (origin asked)) (λ now after r does. does.0.0) (Ok known) holds
     told_of path words origin answer (Err fault) (inr (asked, e, inr (refusal, fault_is, holds))) = got path (IsHistoryRead (origin asked)) (λ now after r does. does.0.0) (Err refusal) holds
 
+    receipts_told : (path word : List ℕ) (name : Option (List ℕ)) (made : Result (List ℕ) LineFault)
+        → AreReceiptsTold w.shows word name (w.finds st.files path) (w.refuses st.files path) (w.connects st.files path) st.left made → HasState next s
+    receipts_told path word name (Ok text) (asked, e, (read, holds, text_is)) = got path (AreReceiptsRead asked.origin) (λ now after r does. does.0.0) (Ok read) holds
+    receipts_told path word name (Err fault) (inl (given, none)) = unread none
+    receipts_told path word name (Err fault) (inr (asked, e, inl (none, (read, holds)))) = got path (AreReceiptsRead asked.origin) (λ now after r does. does.0.0) (Ok read) holds
+    receipts_told path word name (Err fault) (inr (asked, e, inr (refusal, fault_is, holds))) = got path (AreReceiptsRead asked.origin) (λ now after r does. does.0.0) (Err refusal) holds
+
+    blamed_by : (path word : List ℕ) (name : Option (List ℕ)) (form : BlameForm) (old new : Option (List ℕ)) (result : Result (Unit {0}) JobFault) (writes writes_after : ℕ)
+        → BlameEnds (stores_of w.shows (w.finds st.files) (w.refuses st.files) (w.connects st.files)) path word name form st.left old new result writes writes_after → HasState next s
+    blamed_by path word name Changes old new result writes writes_after (made, is_made, told) =
+        told_of path (blame_asked word name) (λ asked. asked.origin) (λ asked held. Ok (blame_text asked held)) made is_made
+    blamed_by path word name Receipts old new result writes writes_after (made, is_made, told) = receipts_told path word name made is_made
+
     exported_by : (path word : List ℕ) (at : Option ℕ) (form : ZoneForm) (old new : Option (List ℕ)) (result : Result (Unit {0}) JobFault) (writes writes_after : ℕ)
         → ExportEnds (stores_of w.shows (w.finds st.files) (w.refuses st.files) (w.connects st.files)) path word at form st.left old new result writes writes_after → HasState next s
     exported_by path word None form old new result writes writes_after (written, (made, is_made, told)) = exported path word made is_made
@@ -498,8 +514,8 @@ module _ {A F C H P : Type 0} (w : Setting A F C H P) (law : (conn : C) → Sett
         stays s next (got words.store.now IsListRead (λ now after r does. does.0.0) r is_got)
     stored_job (store_job.Log words) status (idle, unread, (outcome, (made, is_made, told), status_is)) =
         stays s next (logged words.zone.store.now words.zone.origin.now words.choice made is_made)
-    stored_job (store_job.Blame words) status (idle, unread, (outcome, (made, is_made, told), status_is)) =
-        stays s next (told_of words.zone.store.now (blame_asked words.zone.origin.now (option_map (λ n. n.now) words.name)) (λ asked. asked.origin) (λ asked held. Ok (blame_text asked held)) made is_made)
+    stored_job (store_job.Blame words) status (idle, unread, (outcome, ends, status_is)) =
+        stays s next (blamed_by words.zone.store.now words.zone.origin.now (option_map (λ n. n.now) words.name) words.form st.output.old st.output.new outcome st.output.before st.output.after ends)
     stored_job (store_job.Undo words) status (idle, unread, (outcome, (made, is_made, told), status_is)) =
         stays s next (told_of words.zone.store.now (of_names (absolute_name words.zone.origin.now)) (λ origin. origin) (undo_text words.first words.last) made is_made)
     stored_job (store_job.Migrate words) status (idle, unread, (outcome, (written, (made, is_made, told)), status_is)) = stays s next (migrates words.store.now made is_made)

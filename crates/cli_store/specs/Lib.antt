@@ -13,6 +13,7 @@ pub mod ZoneList
 pub mod StoreLog
 pub mod StoreList
 pub mod ZoneHistory
+pub mod BlameReceipts
 pub mod Serve
 pub mod Program
 pub mod Starts

@@ -63,7 +63,8 @@ use Rattle.cli_store.specs.Around.{Around, Callers}
 use Rattle.cli_store.specs.Stores.{StoresOf}
 use Rattle.cli_store.specs.Import.{ImportWritten, ZoneStored}
 use Rattle.cli_store.specs.ImportList.{ListImported}
-use Rattle.cli_store.specs.ZoneHistory.{BlamePrinted, ExportEnds, UndoPrinted}
+use Rattle.cli_store.specs.BlameReceipts.{BlameEnds}
+use Rattle.cli_store.specs.ZoneHistory.{ExportEnds, UndoPrinted}
 use Rattle.cli_store.specs.Migrate.{MigrationWritten, StoreMigrated}
 use Rattle.cli_store.specs.Remove.{RemovalWritten, ZoneRemoved}
 use Rattle.cli_store.specs.StoreList.{ZonesPrinted}
@@ -274,7 +275,7 @@ StoreJobEnds a p s i o t (store_job.Log w) left status =
     IsIdle t × IsUnread i × Ends (λ outcome. LogPrinted s w.zone.store.now w.zone.origin.now w.choice left o.old o.new outcome o.before o.after) status
 StoreJobEnds a p s i o t (store_job.Blame w) left status =
     IsIdle t × IsUnread i
-    × Ends (λ outcome. BlamePrinted s w.zone.store.now w.zone.origin.now (option_map (λ n. n.now) w.name) left o.old o.new outcome o.before o.after) status
+    × Ends (λ outcome. BlameEnds s w.zone.store.now w.zone.origin.now (option_map (λ n. n.now) w.name) w.form left o.old o.new outcome o.before o.after) status
 StoreJobEnds a p s i o t (store_job.Undo w) left status =
     IsIdle t × IsUnread i
     × Ends (λ outcome. UndoPrinted s w.zone.store.now w.zone.origin.now w.first w.last left o.old o.new outcome o.before o.after) status

@@ -31,6 +31,7 @@ mod zone_files;
 mod zone_history;
 mod zone_list;
 mod zone_log;
+mod zone_makers;
 mod zone_undo;
 mod zones;
 
@@ -54,5 +55,6 @@ pub use streams::{Streams, run_words};
 pub use surroundings::Surroundings;
 pub use zone_blame::{BlameAsked, blame};
 pub use zone_history::ZoneHistory;
+pub use zone_makers::{Sender, ZoneReceipts, blame_receipts};
 pub use zone_undo::undo;
 pub use zones::{export, import};

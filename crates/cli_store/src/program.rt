@@ -17,7 +17,7 @@ use crate::service::serve;
 use crate::store_list::list_zones;
 use crate::store_log::log;
 use crate::surroundings::{Ended, NamedFile, Surroundings};
-use crate::zone_blame::blame;
+use crate::zone_makers::blame_by;
 use crate::zone_undo::undo;
 use crate::zones::import;
 use cli_checks::{
@@ -624,7 +624,7 @@ fn done<M: Surroundings, S: Alter + Drop, P: StoreFiles<S> + Drop, R: Source, W:
         StoreJob::Export(words) => export_by(alloc, files, words, output),
         StoreJob::Zones(words) => list_zones(alloc, files, words.store, output),
         StoreJob::Log(words) => log(alloc, files, words.zone, words.choice, output),
-        StoreJob::Blame(words) => blame(alloc, files, words.zone, words.name, output),
+        StoreJob::Blame(words) => blame_by(alloc, files, words, output),
         StoreJob::Undo(words) => undo(alloc, files, words, output),
         StoreJob::Migrate(words) => migrate(alloc, files, words.store, output),
         StoreJob::Remove(words) => remove(alloc, files, words.zone, output),

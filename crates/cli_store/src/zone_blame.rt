@@ -39,7 +39,11 @@ pub struct BlameAsked {
 }
 
 /// What the words ask for. The first refusal is that of the origin.
-fn blame_asked(alloc: Global, origin: &str, name: Option<&str>) -> Result<BlameAsked, LineFault>
+pub(crate) fn blame_asked(
+    alloc: Global,
+    origin: &str,
+    name: Option<&str>,
+) -> Result<BlameAsked, LineFault>
     ensures { Gives (λ asked. asked) result (blame_asked origin.now (option_map (λ n. n.now) name.entry)) }
 {
     Ok(BlameAsked {
@@ -49,7 +53,7 @@ fn blame_asked(alloc: Global, origin: &str, name: Option<&str>) -> Result<BlameA
 }
 
 /// Whether a record is within the name that is given.
-fn is_asked(name: &Option<Name>, rr: &Record) -> bool
+pub(crate) fn is_asked(name: &Option<Name>, rr: &Record) -> bool
     ensures { result ≡ passes (λ top. is_within rr.now.owner top) name.now }
 {
     match name {

@@ -28,7 +28,7 @@ pub returns-in-Log : goal.returns-in-Log
 returns-in-Log g c = rw c.in-Log.is ((refl, refl), (refl, refl), (_, c.log.ensures, refl))
 
 pub returns-in-Blame : goal.returns-in-Blame
-returns-in-Blame g c = rw c.in-Blame.is ((refl, refl), (refl, refl), (_, c.blame.ensures, refl))
+returns-in-Blame g c = rw c.in-Blame.is ((refl, refl), (refl, refl), (_, c.blame_by.ensures, refl))
 
 pub returns-in-Undo : goal.returns-in-Undo
 returns-in-Undo g c = rw c.in-Undo.is ((refl, refl), (refl, refl), (_, c.undo.ensures, refl))
