@@ -50,7 +50,7 @@ nothing_listed schema listed =
     let views = zip_none IsViewRow schema.views listed.views in
     λ i. record { tables = tables i; indexes = indexes i; views = views i }
 
--- rows of version 1 are none of version 2
+-- rows of version 1 are not rows of version 2
 versions_are_apart : (db : Trees) (rows others : RowsOf) → IsPermutation (pos 1 ∷ []) rows.versions → IsPermutation (pos 2 ∷ []) others.versions → AreRows db rows → AreRows db others → ⊥
 versions_are_apart db rows others one two a b =
     let first = one_version (db 0) (pos 1) rows.versions others.versions one a.versions b.versions in
