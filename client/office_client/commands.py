@@ -6,7 +6,7 @@ from typing import Any
 from urllib.parse import unquote
 
 from . import data, names, pending, refusals, script, sending
-from .history import run_log, run_undo
+from .history import past_file, run_blame, run_log, run_undo
 from .importing import run_diff, run_import
 from .server import Reply
 from .sending import Send
@@ -136,14 +136,20 @@ def run_list(session: Session, words: list[str]) -> int:
     return status
 
 
-def run_file(session: Session, _words: list[str]) -> int:
-    """Prints the records as a master file."""
+def file_of(session: Session) -> str:
+    """The records as a master file."""
     reply = session.server.get("file", "zones", session.needed_zone(), "file")
     if reply.status != 200:
         raise Refused(refusals.words(reply.fields), reply.fields)
-    session.report["file"] = reply.text
+    return reply.text
+
+
+def run_file(session: Session, words: list[str]) -> int:
+    """Prints the records as a master file, or as they were after a change."""
+    text = past_file(session, words[0]) if words else file_of(session)
+    session.report["file"] = text
     if not session.options.json:
-        put(clean(reply.text, "\n"), end="")
+        put(clean(text, "\n"), end="")
     return 0
 
 
@@ -194,7 +200,8 @@ def run_forget(session: Session, words: list[str]) -> int:
 
 # Each command by its name
 RUN: dict[str, Callable[[Session, list[str]], int]] = {
-    "list": run_list, "file": run_file, "delegations": run_delegations, "changes": run_changes, "log": run_log, "rights": run_rights,
+    "list": run_list, "file": run_file, "delegations": run_delegations, "changes": run_changes, "log": run_log, "blame": run_blame,
+    "rights": run_rights,
     "add": run_add, "delete": run_delete, "set": run_set, "delegate": run_delegate, "diff": run_diff, "import": run_import,
     "undo": run_undo, "nsupdate": run_nsupdate, "pending": run_pending, "forget": run_forget,
 }

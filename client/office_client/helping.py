@@ -26,13 +26,16 @@ class Command(NamedTuple):
 COMMANDS = {
     "list": Command("[NAME]", "the records you may list, or those within a name",
                     "With --strict it is status 3 if there is none."),
-    "file": Command("", "the same records as a master file", "Edit it, and see office diff and office import."),
+    "file": Command("[NUMBER]", "the same records as a master file, or as they were after a change",
+                    "Edit it, and see office diff and office import. NUMBER is of office log; 0 is before all changes."),
     "delegations": Command("", "the delegations of the zone",
                            "After a server comes whether its address is listed, unlisted or outside."),
     "changes": Command("[FROM]", "the changes you may see, from a number on", "Record by record; office log says them in words."),
     "log": Command("[NAME]", "the same changes in words, or those at a name and below it",
                    "An arrow is between what went and what came. --last N says how many changes are printed; office undo takes one "
                    "back."),
+    "blame": Command("[NAME]", "the records you may list, each after the number of the change that brought it",
+                     "It is 0 where the record was there from the first on. office log has what each change did, and file NUMBER the zone."),
     "rights": Command("NAME TYPE ACTION", "whether you may list, check, add, delete or delegate records",
                       "It prints the rule that decides, and is status 0 if it grants and 1 if it denies."),
     "add": Command("NAME TTL TYPE DATA...", "adds a record",

@@ -1,4 +1,4 @@
-"""Changes of a zone: in words, and taken back."""
+"""Changes of a zone: in words, by record, and taken back; and the zone as it was."""
 
 from typing import Any, NamedTuple
 
@@ -81,6 +81,48 @@ def run_log(session: Session, words: list[str]) -> int:
         for line in lines:
             session.print(f"{number} {line}")
     return 0
+
+
+# By record, and the zone as it was
+
+def bringers(records: list[Record], changes: list[Change]) -> list[tuple[int, Record]]:
+    """Records, each after the number of the change that brought it, and after 0 where none did."""
+    brought = {record: change.number for change in changes for record in change.added}
+    return [(brought.get(record, 0), record) for record in records]
+
+
+def run_blame(session: Session, words: list[str]) -> int:
+    """Prints records, each after the number of the change that brought it."""
+    within = [session.owner(word) for word in words]
+    session.zone = session.zone or (session.server.zone_of(within[0]) if within else None)
+    records = Listing(session.server, session.needed_zone()).read(*within)
+    found = bringers(records, read_changes(session, 1))
+    session.report["blame"] = [{"number": number, "record": record.line()} for number, record in found]
+    for number, record in found:
+        session.print(f"{number} {record.line()}")
+    return 0
+
+
+def before(records: list[Record], changes: list[Change]) -> list[Record]:
+    """The records before some changes, in record order."""
+    there = set(records)
+    for change in reversed(changes):
+        if not there.issuperset(change.added):
+            raise Refused("the zone was changed meanwhile: ask again")
+        there.difference_update(change.added)
+        there.update(change.removed)
+    return sorted(there, key=data.order)
+
+
+def past_file(session: Session, word: str) -> str:
+    """The zone as it was after the change of a number, or with 0 as it was at first, as a master file."""
+    number = data.whole(word, 4294967295)
+    listed = Listing(session.server, session.needed_zone()).read()
+    changes = read_changes(session, max(number, 1))
+    if number and not changes:
+        raise Refused(f"there is no change {number} that you may see")
+    records = before(listed, [change for change in changes if change.number > number])
+    return "".join(line + "\n" for line in [f"$ORIGIN {session.needed_zone()}", *(record.line() for record in records)])
 
 
 # Taken back

@@ -42,7 +42,7 @@ class Options(unittest.TestCase):
         given = options.Options()
         self.assertEqual(command_of(["plan", "delete", "a"], given), ("delete", ["a"]))
         self.assertTrue(given.dry_run)
-        wrong: list[list[str]] = [[], ["sing"], ["add", "a", "5m", "A"], ["plan"], ["plan", "list"], ["undo"], ["file", "x"], ["diff", "a", "b", "c"]]
+        wrong: list[list[str]] = [[], ["sing"], ["add", "a", "5m", "A"], ["plan"], ["plan", "list"], ["undo"], ["file", "1", "2"], ["blame", "a", "b"], ["diff", "a", "b", "c"]]
         for words in wrong:
             with self.assertRaises(Bad):
                 command_of(words, options.Options())

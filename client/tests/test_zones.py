@@ -7,11 +7,11 @@ import unittest
 
 sys.path.insert(0, str(pathlib.Path(__file__).parents[1]))
 
-from office_client import checking, data, importing, rules, update, zone  # noqa: E402 pylint: disable=wrong-import-position
+from office_client import checking, data, history, importing, rules, update, zone  # noqa: E402 pylint: disable=wrong-import-position
 from office_client.master import File  # noqa: E402 pylint: disable=wrong-import-position
 from office_client.planning import holds  # noqa: E402 pylint: disable=wrong-import-position
 from office_client.reading import Table  # noqa: E402 pylint: disable=wrong-import-position
-from office_client.telling import Bad  # noqa: E402 pylint: disable=wrong-import-position
+from office_client.telling import Bad, Refused  # noqa: E402 pylint: disable=wrong-import-position
 from office_client.update import Group, Part, Update  # noqa: E402 pylint: disable=wrong-import-position
 from office_client.zone import Zone  # noqa: E402 pylint: disable=wrong-import-position
 
@@ -225,6 +225,28 @@ class Parts(unittest.TestCase):
         self.assertEqual(len(update.points(Part("delete-name", "a.example.org."), True, origin)), 9)
         self.assertEqual(len(update.points(Part("delete-name", origin), True, origin)), 7)
         self.assertEqual(len(update.points(Part("name-used", origin), False, origin)), 9)
+
+
+class Histories(unittest.TestCase):
+    """Zones and their changes."""
+
+    def test_past_zones(self) -> None:
+        """The zone before changes is that in which they were made; a zone that is not the one after them is refused."""
+        first = [data.record_of(line) for line in BASE.splitlines()]
+        came, again = data.record_of("a.example.org. 60 IN A 192.0.2.9"), data.record_of("a.example.org. 90 IN A 192.0.2.9")
+        changes = [history.Change(1, [], [came]), history.Change(2, [came], [again]), history.Change(4, [first[5]], [])]
+        now = sorted([*first[:5], again], key=data.order)
+        self.assertEqual(history.before(now, changes), sorted(first, key=data.order))
+        self.assertEqual(history.before(now, changes[2:]), sorted([*first, again], key=data.order))
+        self.assertEqual(history.before(now, []), now)
+        with self.assertRaises(Refused):
+            history.before(first, changes)
+
+    def test_bringers(self) -> None:
+        """Of the changes that brought a record the last one counts."""
+        one, other = data.record_of("a.example.org. 60 IN A 192.0.2.9"), data.record_of("b.example.org. 60 IN A 192.0.2.9")
+        changes = [history.Change(1, [], [one]), history.Change(2, [one], []), history.Change(3, [], [one])]
+        self.assertEqual(history.bringers([one, other], changes), [(3, one), (0, other)])
 
 
 if __name__ == "__main__":
