@@ -3,7 +3,7 @@
 use crate::beginning::Beginning;
 use crate::kept_files::KeptFile;
 use crate::surroundings::Surroundings;
-use cli_core::{Check, CheckSubject, Job, Reach, StoreJob, TextJob, read_words};
+use cli_core::{CheckSubject, Job, StoreJob, TextJob, read_words};
 use dns_data::{DataFault, RecordType};
 use dns_master::{MasterFault, Token, read_file, tokens};
 use dns_names::Name;
@@ -117,28 +117,43 @@ fn tell<M: Surroundings>(around: &M, input: Input<'_>, status: ExitCode) {
     }
 }
 
-/// The origin of the zone that a job without a store reads, if it is one of a master file.
-fn text_origin(job: TextJob<'_>) -> Option<&str> {
-    match job {
-        TextJob::Canon(words) => Some(words.origin),
-        TextJob::Diff(words) => Some(words.origin),
-        TextJob::Check(
-            Check {
-                subject: CheckSubject::Zone { origin, .. }
-                | CheckSubject::Reach(Reach { origin, .. }),
-                ..
-            },
-        ) => Some(origin),
+/// What a job reads as master files.
+#[derive(Clone, Copy)]
+struct Masters<'a> {
+    /// The origin of their zones.
+    origin: &'a str,
+    /// The path of a file that it reads as a policy, if there is one.
+    policy: Option<&'a str>,
+}
+
+/// Master files of an origin, beside which no policy is read.
+const fn only_masters(origin: &str) -> Masters<'_> {
+    Masters {
+        origin,
+        policy: None,
+    }
+}
+
+/// What a check reads as master files, if anything.
+fn checked_masters(subject: CheckSubject<'_>) -> Option<Masters<'_>> {
+    match subject {
+        CheckSubject::Zone { origin, .. } => Some(only_masters(origin)),
+        CheckSubject::Reach(words) => Some(Masters {
+            origin: words.origin,
+            policy: Some(words.policy),
+        }),
         _ => None,
     }
 }
 
-/// The origin of the zone that a job reads, if it is one of a master file.
-fn origin_of(job: Job<'_>) -> Option<&str> {
+/// What a job reads as master files, if anything.
+fn masters_of(job: Job<'_>) -> Option<Masters<'_>> {
     match job {
-        Job::Text(job) => text_origin(job),
-        Job::Store(StoreJob::Import(words)) => Some(words.zone.origin),
-        Job::Store(_) => None,
+        Job::Text(TextJob::Canon(words)) => Some(only_masters(words.origin)),
+        Job::Text(TextJob::Diff(words)) => Some(only_masters(words.origin)),
+        Job::Text(TextJob::Check(words)) => checked_masters(words.subject),
+        Job::Store(StoreJob::Import(words)) => Some(only_masters(words.zone.origin)),
+        Job::Text(_) | Job::Store(_) => None,
     }
 }
 
@@ -168,10 +183,10 @@ pub(crate) fn tell_hints<M: Surroundings>(
     let Ok(job) = read_words(around.alloc(), words) else {
         return;
     };
-    let Some(origin) = origin_of(job) else {
+    let Some(Masters { origin, policy }) = masters_of(job) else {
         return;
     };
-    for file in files {
+    for file in files.iter().filter(|file| Some(file.path()) != policy) {
         let input = Input {
             origin,
             file: file.path(),
