@@ -1,4 +1,4 @@
--- What an update asks for where it is told which answers a caller can change, and what the office asks about it.
+-- What the search for reached answers asks a policy about an update, and what the office asks.
 use Rattle.std.proofs.Common.{◌≡◌, ◌∙◌, ◌↔◌, ap, sym, refl, subst, true≢false, Bool, true, false, ℕ, List, [], ◌∷◌, Option, Some, None, rules}
 use Rattle.std.specs.Prelude.{if◌then◌else◌, unwrap_or}
 use Rattle.std.specs.List.{AllByRecursion}

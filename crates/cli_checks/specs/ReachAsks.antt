@@ -1,4 +1,4 @@
--- What an update asks for where it is told which answers a caller can change, and what the office asks its policy about it, are the same.
+-- What the search for reached answers asks a policy about an update, and what the office asks.
 use Rattle.std.specs.Prelude.{◌≡◌, ℕ, List, []}
 use Rattle.grant_policy.specs.declared.rule.Rule.{Rule}
 use Rattle.zone_core.specs.Updates.{UpdateOf, IsUpdate, ActsWithin}

@@ -150,8 +150,9 @@ fn old_zone<R: Input, W: Sink>(
 
 /// Writes the items that lead from one zone to another of an origin, in a form; or a line for each group of names for which a server
 /// answers questions otherwise from the other. Two inputs are the two master files: of the zone as it is, and as it is to be. Made in order,
-/// the items give the new zone of the old one; where the two differ in nothing but a serial that is not greater, there are none. Otherwise one line tells the refusal that comes first: of the origin; that the old zone's file
-/// is too large, of it as a master file, of its records as a zone; and the same of the new zone's, which is read after the other.
+/// the items give the new zone of the old one. If the two differ only in a serial that is not greater, it writes no item. Otherwise one
+/// line tells the refusal that comes first: of the origin; that the old zone's file is too large, of it as a master file, of its records
+/// as a zone; and the same of the new zone's, which is read after the other.
 pub fn do_diff<R: Input, N: Input, W: Sink>(
     alloc: Global,
     what: (&str, DiffForm),

@@ -13,7 +13,7 @@ pub record Line : Type 0 where
   pub first : ItemText
   pub others : List Flagged
 
--- the same without any that stands so
+-- an item with a space before it
 abbrev pub apart : ItemText → Flagged
 apart item = record { joined = false; item = item }
 

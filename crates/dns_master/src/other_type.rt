@@ -70,7 +70,7 @@ pub(crate) fn has_keys(text: &[u8]) -> bool
         || text.eq_ignore_ascii_case(b"TYPE65")
 }
 
-/// The last octet of a text, and 0 where there is none.
+/// The last octet of a text, and 0 of an empty one.
 fn last_octet(text: &[u8]) -> u8
     ensures { result ≡ last_octet 0 text.now }
 {

@@ -30,7 +30,7 @@ Labels = List (List ℕ)
 abbrev pub items_in : {A : Type 0} → Option (Vec ℕ A) → List ℕ
 items_in o = option_map_or (λ indexes. indexes.items) o []
 
--- at first there are none
+-- an empty map has no actors
 pub no_actors : {A : Type 0} (m : BTreeMap Labels (Vec ℕ A)) → m.entries ≡ [] → (q : Labels) → actors_at m q ≡ []
 no_actors {A} m none q = ap (λ (es : List (Labels × Vec ℕ A)). items_in (lookup (is_at (canonical_cmp q)) es)) none
 

@@ -25,7 +25,7 @@ pub enum Idleness {
     Alias,
     /// It adds an alias to records of other types.
     OtherTypes,
-    /// It adds an SOA, and there is none with a lesser serial.
+    /// It adds an SOA whose serial is not greater than that of the zone.
     OlderSerial,
     /// What it deletes stays at the origin: the SOA, or the last NS (sections 3.4.2.3 and 3.4.2.4).
     Kept,
