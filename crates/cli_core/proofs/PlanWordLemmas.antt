@@ -24,8 +24,8 @@ of_form : {B : Type 0} (f : PlanForm → B) (x form : PlanForm) → Some form �
 of_form f x form e = ap (λ o. f (form_in o)) e
 
 -- flags go together
-abbrev fits : Bool → Bool → Bool → Bool
-fits answers explain json = not (answers && (explain || json))
+abbrev fits : Bool → Bool → Bool
+fits answers explain = not (answers && explain)
 
 no_form : {X : Type 0} (form : PlanForm) → Some form ≡ None → X
 no_form form e = absurd (true≢false (ap is_some e))
@@ -34,9 +34,9 @@ record HasFlags (form : PlanForm) (answers explain json : Bool) : Type 0 where
   pub of_answers : tells_answers form ≡ answers
   pub of_explain : explains form ≡ explain
   pub of_json : is_object form ≡ json
-  pub fit : fits answers explain json ≡ true
+  pub fit : fits answers explain ≡ true
 
-is_form : (x form : PlanForm) → Some form ≡ Some x → fits (tells_answers x) (explains x) (is_object x) ≡ true → HasFlags form (tells_answers x) (explains x) (is_object x)
+is_form : (x form : PlanForm) → Some form ≡ Some x → fits (tells_answers x) (explains x) ≡ true → HasFlags form (tells_answers x) (explains x) (is_object x)
 is_form x form e fit = record { of_answers = of_form tells_answers x form e; of_explain = of_form explains x form e; of_json = of_form is_object x form e; fit = fit }
 
 flags_of : (answers explain json : Bool) (form : PlanForm) → Some form ≡ plan_form_by answers explain json → HasFlags form answers explain json
@@ -46,7 +46,7 @@ flags_of false true false form e = is_form (Lines plan_lines.Explained) form e r
 flags_of false false true form e = is_form (Object plan_object.Reply) form e refl
 flags_of false true true form e = is_form (Object plan_object.Explained) form e refl
 flags_of true true false form e = no_form form e
-flags_of true false true form e = no_form form e
+flags_of true false true form e = is_form (Object plan_object.Answers) form e refl
 flags_of true true true form e = no_form form e
 
 -- ---- the job
@@ -66,7 +66,7 @@ abbrev values : Text → Text → Bool → Bool → Bool → List Given
 values policy caller answers explain json =
     (argument.Policy, given policy) ∷ (argument.Caller, given caller) ∷ (argument.Answers, flag answers) ∷ (argument.Explain, flag explain) ∷ (argument.Json, flag json) ∷ []
 
-job_is : (policy caller : Text) (answers explain json : Bool) → fits answers explain json ≡ true
+job_is : (policy caller : Text) (answers explain json : Bool) → fits answers explain ≡ true
     → job_for (Some policy) (Some caller) answers explain json ≡ Some (command.Plan, values policy caller answers explain json)
 job_is policy caller answers explain json fit = ap (λ b. if b then Some (command.Plan, values policy caller answers explain json) else None) fit
 

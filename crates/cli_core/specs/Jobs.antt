@@ -84,25 +84,29 @@ abbrev pub tells_answers : PlanForm → Bool
 tells_answers (Lines plan_lines.Records) = false
 tells_answers (Lines plan_lines.Answers) = true
 tells_answers (Lines plan_lines.Explained) = false
-tells_answers (Object object) = false
+tells_answers (Object plan_object.Reply) = false
+tells_answers (Object plan_object.Answers) = true
+tells_answers (Object plan_object.Explained) = false
 
 abbrev pub explains : PlanForm → Bool
 explains (Lines plan_lines.Records) = false
 explains (Lines plan_lines.Answers) = false
 explains (Lines plan_lines.Explained) = true
 explains (Object plan_object.Reply) = false
+explains (Object plan_object.Answers) = false
 explains (Object plan_object.Explained) = true
 
 abbrev pub is_object : PlanForm → Bool
 is_object (Lines lines) = false
 is_object (Object object) = true
 
--- the form of three flags: that of answers is given alone
+-- the form of three flags: answers are not asked for with what is decided
 abbrev pub plan_form_by : Bool → Bool → Bool → Option PlanForm
 plan_form_by false false false = Some (Lines plan_lines.Records)
 plan_form_by true false false = Some (Lines plan_lines.Answers)
 plan_form_by false true false = Some (Lines plan_lines.Explained)
 plan_form_by false false true = Some (Object plan_object.Reply)
+plan_form_by true false true = Some (Object plan_object.Answers)
 plan_form_by false true true = Some (Object plan_object.Explained)
 plan_form_by _ _ _ = None
 

@@ -68,7 +68,7 @@ go_together command.Check gs =
     not (is_given (value_of argument.Only gs) && is_given (value_of argument.Not gs))
     && ((if is_given (value_of argument.Zones gs) then not (is_given (value_of argument.Against gs)) else not (is_given (value_of argument.Reader gs)))
     && not (is_given (value_of argument.Example gs) && is_given (value_of argument.Json gs)))
-go_together command.Plan gs = not (is_given (value_of argument.Answers gs) && (is_given (value_of argument.Explain gs) || is_given (value_of argument.Json gs)))
+go_together command.Plan gs = not (is_given (value_of argument.Answers gs) && is_given (value_of argument.Explain gs))
 go_together command.Policy gs = list_any (bytes_eq (unwrap_or (text_of (value_of argument.Source gs)) [])) (codes "build" ∷ codes "print" ∷ [])
 go_together command.Split gs = not (is_given (value_of argument.Rest gs) && is_given (value_of argument.Signer gs))
 go_together c gs = true

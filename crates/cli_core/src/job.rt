@@ -154,7 +154,9 @@ pub enum PlanForm {
 pub enum PlanObject {
     /// The reply, and of an update that would be made the records that go and come.
     Reply,
-    /// These, and what the policy decides of each item.
+    /// These, and the questions that a server answers otherwise then.
+    Answers,
+    /// The first, and what the policy decides of each item.
     Explained,
 }
 

@@ -129,7 +129,7 @@ fn reported(alloc: Global, words: &[&str], error: Error) -> WordsFault
 /// `import --store PATH (--origin NAME | --list LIST) [--replace]`; `export --store PATH --origin NAME [--at N] [--relative]`; `zones --store PATH`;
 /// `log --store PATH --origin NAME [--from N] [--name NAME] [--caller CALLER]`; `blame --store PATH --origin NAME [--name NAME]`;
 /// `undo --store PATH --origin NAME [--change N] [--to N]`; `migrate --store PATH`; `remove --store PATH --origin NAME`;
-/// `rights --policy PATH --caller CALLER NAME TYPE ACTION`; `plan --policy PATH --caller CALLER [--answers | --explain]`;
+/// `rights --policy PATH --caller CALLER NAME TYPE ACTION`; `plan --policy PATH --caller CALLER [--answers | --explain] [--json]`;
 /// `serve --store PATH --policy PATH --listen ADDRESS:PORT [--connections N] [--patience SECONDS] [--longest SECONDS] [--memory MB]`;
 /// `check policy --policy PATH [--against PATH | --zones PATH [--reader CALLER]]`; `check expect [FILE] --policy PATH`; `check isolation --policy PATH --caller CALLER`;
 /// `check reach [FILE] --policy PATH --caller CALLER --origin NAME`; `check rights [NAME] --policy PATH`; `check zone --origin NAME [--only RULE | --not RULE] [--server SERVER] [--most N] [--warn]`;

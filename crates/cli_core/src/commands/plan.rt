@@ -38,7 +38,7 @@ pub(super) static ROW: Row = Row {
     ],
 };
 
-/// What is printed, unless answers are asked for with what is decided or as JSON.
+/// What is printed, unless answers are asked for with what is decided.
 fn form_at(matches: &ArgMatches<'_>) -> Option<PlanForm>
     ensures { result ≡ plan_form_by (flag_if (first_of (argument_name argument.Answers) (rows_of (found_of matches.now))))
         (flag_if (first_of (argument_name argument.Explain) (rows_of (found_of matches.now))))
@@ -53,6 +53,7 @@ fn form_at(matches: &ArgMatches<'_>) -> Option<PlanForm>
         (true, false, false) => Some(PlanForm::Lines(PlanLines::Answers)),
         (false, true, false) => Some(PlanForm::Lines(PlanLines::Explained)),
         (false, false, true) => Some(PlanForm::Object(PlanObject::Reply)),
+        (true, false, true) => Some(PlanForm::Object(PlanObject::Answers)),
         (false, true, true) => Some(PlanForm::Object(PlanObject::Explained)),
         _ => None,
     }
