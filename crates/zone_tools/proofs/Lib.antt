@@ -11,6 +11,7 @@ pub mod ReverseNameLemmas
 pub mod ReverseBlockLemmas
 pub mod PointerLemmas
 pub mod SharedLemmas
+pub mod RepeatedLemmas
 pub mod LargeSetLemmas
 pub mod HistoryLemmas
 pub mod PastLemmas

@@ -1,11 +1,14 @@
 -- The addresses that several names have.
-use Rattle.std.specs.Prelude.{◌≡◌, ◌≢◌, ℕ, List, Bool, true, false, not, ◌&&◌, is_some}
+use Rattle.std.specs.Prelude.{◌≡◌, ◌≢◌, ℕ, List, [], ◌∷◌, ◌++◌, Bool, true, false, not, ◌&&◌, ◌==◌, is_some, if◌then◌else◌}
 use Rattle.std.specs.List.{Contains, list_any}
 use Rattle.std.specs.List.Sorted.{IsStrictlySortedBy}
-use Rattle.std.specs.Ordering.{is_eq, on, then_cmp, eq_by_cmp}
+use Rattle.std.specs.Net.Addr.{ipv4_bits, ipv6_bits}
+use Rattle.std.specs.Ordering.{is_eq, nat_cmp, on, then_cmp, eq_by_cmp}
 use Rattle.std.specs.declared.cmp.Ordering.{Ordering}
 use Rattle.dns_names.specs.Order.{canonical_cmp, same_name}
 use Rattle.dns_data.specs.declared.record.Record.{Record}
+use Rattle.dns_data.specs.declared.rdata.Data.{Data}
+use Rattle.dns_data.specs.declared.rdata.Data.TheVariants.{A, Aaaa}
 use Rattle.dns_data.specs.RecordOrder.{data_order}
 use Rattle.zone_tools.specs.ReverseNames.{IsPlaceOf, place_of}
 use Rattle.zone_tools.specs.HostNames.{is_wildcard}
@@ -52,3 +55,39 @@ is_namesake r s = is_eq (data_order s.rdata r.rdata) && not (same_name s.owner r
 
 abbrev pub is_shared : List Record → Record → Bool
 is_shared rs r = list_any (is_namesake r) rs
+
+-- ---- the records of hosts whose addresses occur more than once
+
+-- the number whose bits are an address; other data have none
+abbrev pub address_number : Data → ℕ
+address_number (A address) = ipv4_bits address
+address_number (Aaaa address) = ipv6_bits address
+address_number rdata = 0
+
+abbrev pub is_address : Data → Bool
+is_address (A address) = true
+is_address (Aaaa address) = true
+is_address rdata = false
+
+-- an address at a name that is no wildcard
+abbrev pub is_host_address : Record → Bool
+is_host_address r = is_address r.rdata && not (is_wildcard r.owner)
+
+abbrev pub number_order : Record → Record → Ordering
+number_order = on (λ r. address_number r.rdata) nat_cmp
+
+-- two records if their addresses have one number
+abbrev pub if_same_number : Record → Record → List Record
+if_same_number first second = if address_number first.rdata == address_number second.rdata then first ∷ second ∷ [] else []
+
+-- the neighbours among records whose addresses have one number
+abbrev pub same_neighbours : List Record → List Record
+same_neighbours [] = []
+same_neighbours (first ∷ []) = []
+same_neighbours (first ∷ second ∷ rs) = if_same_number first second ++ same_neighbours (second ∷ rs)
+
+-- some of the records, among them any two of hosts with one address
+pub record HaveRepeated (rs repeated : List Record) : Type 0 where
+  pub each : (r : Record) → Contains repeated r → Contains rs r
+  pub all : (r s : Record) → Contains rs r → Contains rs s → is_host_address r ≡ true → is_host_address s ≡ true → r.rdata ≡ s.rdata → r.owner ≢ s.owner
+      → Contains repeated r

@@ -18,6 +18,7 @@ mod past;
 mod pointers;
 mod record_faults;
 mod record_key;
+mod repeated_addresses;
 mod reverse_blocks;
 mod reverse_names;
 mod same;

@@ -8,6 +8,7 @@ ghost use Rattle.zone_tools.specs.ReverseNames.{block_of};
 ghost use Rattle.zone_tools.specs.SharedAddresses.{AreShared, address_order, has_place, AreDistinct, is_namesake, is_shared};
 
 use crate::host_names::is_wildcard;
+use crate::repeated_addresses::repeated;
 use crate::reverse_blocks::{Block, block_of, place_of};
 use dns_data::{Record, data_order};
 use dns_names::Name;
@@ -136,6 +137,7 @@ pub fn shared_addresses(
     ensures { IfOk result (λ shared. AreShared origin.now records.now shared.items) }
 {
     reveal_records(records);
-    let records = distinct(placed(alloc, origin, records)?)?;
+    let repeated = repeated(alloc, records)?;
+    let records = distinct(placed(alloc, origin, &repeated)?)?;
     shared(alloc, &records)
 }
