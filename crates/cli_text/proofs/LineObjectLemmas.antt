@@ -56,6 +56,11 @@ pub each_there : (words : List (Bor (List ℕ))) (m : Member) (place : ℕ) (val
     → each_after 44 (member_if (texts_of words) (member_in m)) ≡ 44 ∷ member m.key.now value
 each_there words m place value at inside is = ap (each_after 44) (member_there words m place value at inside is) ∙ append-nil (44 ∷ member m.key.now value)
 
+pub each_values : {X : Type 0} (o : ℕ) (f : X → List (List ℕ)) (xs : List X) → flat_map (λ x. each_after o (f x)) xs ≡ each_after o (flat_map f xs)
+each_values o f [] = refl
+each_values o f (x ∷ xs) =
+    ap (λ (l : List ℕ). each_after o (f x) ++ l) (each_values o f xs) ∙ sym (flat_map-append (λ (text : List ℕ). o ∷ text) (f x) (flat_map f xs))
+
 each_of : (o : ℕ) (words : List (List ℕ)) (members : List Member)
     → flat_map (λ m. each_after o (member_if words (member_in m))) members ≡ each_after o (flat_map (member_if words) (map member_in members))
 each_of o words [] = refl

@@ -3,8 +3,6 @@ use Rattle.std.specs.Prelude.{◌≡◌, ℕ, List, [], ◌∷◌, ◌++◌, cod
 use Rattle.std.specs.List.{flat_map}
 use Rattle.dns_names.specs.Reading.{absolute_name}
 use Rattle.dns_names.specs.Spelling.{name_text}
-use Rattle.dns_data.specs.declared.record.Record.{Record}
-use Rattle.dns_data.specs.Text.{record_line}
 use Rattle.zone_core.specs.Rcodes.{rcode_text}
 use Rattle.zone_core.specs.Sets.{listing}
 use Rattle.zone_core.specs.Zones.{ZoneOf}

@@ -153,6 +153,15 @@ line_object kind (o ∷ line) = object_line kind (o ∷ line)
 abbrev pub objects_text : LineKind → List ℕ → List ℕ
 objects_text kind text = flat_map (line_object kind) (lines_of text)
 
+-- the object of a line as a value; an empty line has none
+abbrev pub line_value : LineKind → List ℕ → List (List ℕ)
+line_value kind [] = []
+line_value kind (o ∷ line) = object_by (members_of kind (first_of (words_of (o ∷ line)))) (words_of (o ∷ line)) ∷ []
+
+-- the objects of the lines of a text as an array (RFC 8259 section 5)
+abbrev pub objects_array : LineKind → List ℕ → List ℕ
+objects_array kind text = array (flat_map (line_value kind) (lines_of text))
+
 -- a text, as what it is printed
 abbrev pub in_form : TextForm → LineKind → List ℕ → List ℕ
 in_form Plain kind text = text

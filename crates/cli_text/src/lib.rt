@@ -27,7 +27,7 @@ pub use apply::{Apply, InputRead, read_parts, read_records, zone_of_records};
 pub use canon::{print_zone_in, read_name, read_zone, zone_of_file};
 pub use changed_answers::{answer_lines, push_questions};
 pub use laws::{text_is_divided, zones_are_read_again};
-pub use line_objects::{LineKind, in_form};
+pub use line_objects::{LineKind, in_form, objects_array};
 pub use questions::name_on;
 pub use record_lines::{line_of, push_records};
 pub use rights::{caller_if, decision_text, read_caller};

@@ -3,7 +3,8 @@
 ghost use Rattle.std.specs.Prelude.{◌≡◌, ◌++◌, ◌∷◌, [], IfOk, OnOk, drop, map};
 ghost use Rattle.std.specs.List.{flat_map, join_with_byte};
 ghost use Rattle.wire_json.specs.Json.{quoted, array, member};
-ghost use Rattle.cli_text.specs.LineObjects.{members_of, member_in, item_members, words_of, place_of, value_at, member_if, is_granted, object_by, first_of, line_object, objects_text, in_form, each_after};
+ghost use Rattle.policy_tools.specs.ExpectationLines.{lines_of};
+ghost use Rattle.cli_text.specs.LineObjects.{members_of, member_in, item_members, words_of, place_of, value_at, member_if, is_granted, object_by, first_of, line_object, line_value, objects_array, objects_text, in_form, each_after};
 
 use cli_core::TextForm;
 use policy_tools::lines_of;
@@ -607,6 +608,69 @@ fn objects_text(alloc: Global, kind: LineKind, text: &[u8]) -> Result<Vec<u8>, A
 {
     let lines = lines_of(alloc, text)?;
     objects_of(alloc, kind, &lines)
+}
+
+/// Appends a comma and the object of words, by the first of them. The only error is out of memory.
+fn push_value(
+    alloc: Global,
+    out: &mut Vec<u8>,
+    kind: LineKind,
+    words: &[&[u8]],
+) -> Result<(), AllocError>
+    ensures { OnOk result
+        (out.new.items
+        ≡ out.old.items ++ each_after 44 (object_by (members_of kind (first_of (map (λ w. w.now) words.now))) (map (λ w. w.now) words.now) ∷ [])) }
+{
+    out.push(b',')?;
+    push_object(alloc, out, members_of(kind, first_of(words)), words)
+}
+
+/// Appends a comma and the object of a line, or nothing for an empty line. The only error is out of memory.
+fn push_line_value(
+    alloc: Global,
+    out: &mut Vec<u8>,
+    kind: LineKind,
+    line: &[u8],
+) -> Result<(), AllocError>
+    ensures { OnOk result (out.new.items ≡ out.old.items ++ each_after 44 (line_value kind line.now)) }
+{
+    match line {
+        [] => Ok(()),
+        [..] => {
+            let words = words_of(alloc, line)?;
+            push_value(alloc, out, kind, &words)
+        }
+    }
+}
+
+/// The objects of lines, each after a comma. The only error is out of memory.
+fn values_after(alloc: Global, kind: LineKind, lines: &[&[u8]]) -> Result<Vec<u8>, AllocError>
+    ensures { IfOk result (λ values. values.items ≡ flat_map (λ line. each_after 44 (line_value kind line.now)) lines.now) }
+{
+    let mut values = Vec::new(alloc);
+    for line in lines {
+        push_line_value(alloc, &mut values, kind, line)?;
+    }
+    Ok(values)
+}
+
+/// The objects of the lines of a text, each after a comma. The only error is out of memory.
+fn text_values(alloc: Global, kind: LineKind, text: &[u8]) -> Result<Vec<u8>, AllocError>
+    ensures { IfOk result (λ values. values.items ≡ each_after 44 (flat_map (line_value kind) (lines_of text.now))) }
+{
+    let lines = lines_of(alloc, text)?;
+    values_after(alloc, kind, &lines)
+}
+
+/// The objects of the lines of a text, as an array. The only error is out of memory.
+pub fn objects_array(alloc: Global, kind: LineKind, text: &[u8]) -> Result<Vec<u8>, AllocError>
+    ensures { IfOk result (λ array. array.items ≡ objects_array kind text.now) }
+{
+    let values = text_values(alloc, kind, text)?;
+    let mut array = Vec::from_slice(alloc, b"[")?;
+    array.extend_from_slice(after_first(&values))?;
+    array.push(b']')?;
+    Ok(array)
 }
 
 /// A text of lines, as what it is printed. The only error is out of memory.
