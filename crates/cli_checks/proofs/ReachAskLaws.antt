@@ -13,7 +13,7 @@ use Rattle.grant_policy.specs.Decisions.{Verdict, granted, denied, decision, is_
 use Rattle.zone_core.specs.declared.update.Operation.{Operation}
 use Rattle.zone_core.specs.declared.update.Operation.TheVariants.{Add, DeleteRrset, DeleteName, DeleteRecord}
 use Rattle.zone_core.specs.declared.update.Prerequisite.{Prerequisite}
-use Rattle.zone_core.specs.Updates.{UpdateOf, IsUpdate, ActsWithin, tested_name, acted_name}
+use Rattle.zone_core.specs.Updates.{tested_name, acted_name}
 use Rattle.office_core.specs.Footprints as office
 use Rattle.office_core.specs.Permissions as permission
 use Rattle.office_core.proofs.FootprintLemmas.{operation_asks}

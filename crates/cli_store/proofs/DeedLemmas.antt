@@ -1,6 +1,5 @@
 -- What histories of calls, imports, replacements and removals keep.
-use Rattle.std.proofs.Common.{◌≡◌, ◌∙◌, ℕ, Bool, cond, List, [], ◌∷◌, ◌++◌, Option, Some, None, Result, Ok, Err, refl, sym, ap, subst}
-use Rattle.std.proofs.lemmas.List.{map-append}
+use Rattle.std.proofs.Common.{◌≡◌, ◌∙◌, ℕ, Bool, cond, List, [], ◌∷◌, ◌++◌, Option, Some, None, Result, Ok, Err, refl, sym, ap}
 use Rattle.zone_core.specs.Zones.{ZoneOf}
 use Rattle.zone_core.proofs.SetLemmas.{name_self}
 use Rattle.grant_policy.specs.declared.rule.Rule.{Rule}

@@ -34,7 +34,7 @@ use Rattle.cli_store.specs.ImportList.{Stays}
 use Rattle.cli_store.specs.Puts.{put_into, with_put}
 use Rattle.cli_store.specs.Remove.{removed_line, removal, IsTakenOut}
 use Rattle.cli_store.specs.Stores.{IsAdopted, IsNoStore, IsMade, IsUnmade, IsMigratedTo, IsUnmigrated, IsPut}
-use Rattle.cli_store.specs.Starts.{IsBare, IsOldStateIn, HasState, held, none, old, Finds}
+use Rattle.cli_store.specs.Starts.{IsBare, HasState, held, none, old, Finds}
 use Rattle.cli_store.proofs.RemovalLemmas.{taken_fails}
 
 -- ---- tables that are listed

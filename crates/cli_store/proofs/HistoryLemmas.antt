@@ -2,9 +2,8 @@
 use Rattle.std.proofs.Common.{◌≡◌, inl, inr, ℕ, ◌≤◌, Bool, true, cond, nat_le, List, length, drop, Option, Some, None, option_map, Result, Ok, Err, refl, sym, ap, subst, ◌∙◌, arith}
 use Rattle.std.specs.Result.{result_map_both}
 use Rattle.sqlite.specs.State.{State as Shown}
-use Rattle.dns_names.specs.Reading.{absolute_name}
 use Rattle.dns_data.specs.declared.record.Record.{Record}
-use Rattle.zone_core.specs.Sets.{Records, set_of, listing, AreRows}
+use Rattle.zone_core.specs.Sets.{Records, listing, AreRows}
 use Rattle.zone_core.specs.Changes.{ChangeOf}
 use Rattle.zone_core.specs.Zones.{ZoneOf}
 use Rattle.zone_core.proofs.RowLemmas.{listing_of}
@@ -13,7 +12,7 @@ use Rattle.store_faults.specs.declared.store_fault.StoreFault.{StoreFault}
 use Rattle.cli_core.specs.declared.refusal.Refusal.{Refusal}
 use Rattle.cli_core.specs.declared.line_fault.LineFault.{LineFault}
 use Rattle.cli_core.specs.declared.line_fault.LineFault.TheVariants.{Refused, ReadFailed, NoMemory}
-use Rattle.cli_core.specs.LineFaults.{◌>>=◌, of_store, Gives}
+use Rattle.cli_core.specs.LineFaults.{◌>>=◌, of_store}
 use Rattle.cli_core.specs.declared.line_fault.JobFault.{JobFault}
 use Rattle.cli_store.specs.Reports.{IsShown}
 use Rattle.cli_store.specs.Stores.{IsGot}

@@ -1,5 +1,5 @@
 -- Zones of a list that are put into a store one after the other.
-use Rattle.std.proofs.Common.{◌≡◌, ◌⊎◌, ◌∙◌, ℕ, ◌+◌, ◌<◌, ◌≤◌, Bool, true, false, List, [], ◌∷◌, ◌++◌, length, map, drop, get_or, Option, Some, None, Result, Ok, Err, refl, sym, ap, subst, inl, inr, append-nil, arith}
+use Rattle.std.proofs.Common.{◌≡◌, ◌⊎◌, ◌∙◌, ℕ, ◌+◌, ◌<◌, ◌≤◌, true, false, List, [], ◌∷◌, ◌++◌, length, drop, get_or, Option, Result, Ok, Err, refl, sym, ap, subst, inl, inr, append-nil}
 use Rattle.std.specs.Bool.{⊤}
 use Rattle.std.specs.Prelude.{is_some}
 use Rattle.std.specs.Io.KnownBytes.{Appends}
@@ -10,7 +10,7 @@ use Rattle.sqlite.specs.State.{State as Shown, HasCleanDisk}
 use Rattle.zone_core.specs.Zones.{ZoneOf}
 use Rattle.office_model.specs.States.{State}
 use Rattle.store_faults.specs.declared.store_fault.StoreFault.{StoreFault}
-use Rattle.office_store.specs.Holds.{HoldsState, LeavesStates}
+use Rattle.office_store.specs.Holds.{HoldsState}
 use Rattle.store_faults.specs.StoreFaults.{IsFailure}
 use Rattle.store_faults.specs.declared.store_fault.StoreFault.TheVariants as store
 use Rattle.cli_core.specs.declared.commands.import.ImportList.{ImportList}
@@ -28,7 +28,7 @@ use Rattle.wire_tcp.specs.Connections.{Writing}
 use Rattle.cli_store.specs.declared.zone_files.ZoneFile.{ZoneFile}
 use Rattle.cli_store.specs.Around.{Around}
 use Rattle.cli_store.specs.Import.{imported_line}
-use Rattle.cli_store.specs.ImportList.{Passed, stayed, came, IsOf, ArePassed, kept_line, passed_line, passed_lines, AreAllTold, IsStopTold, TakesAll, state_passed, states_passed, TurnsTo, Stays, IsAskedFor, IsUnput, IsNotPassed, IsPutFrom, Passes, IsPassedBy, ArePut, TextImported, ListImported}
+use Rattle.cli_store.specs.ImportList.{Passed, stayed, came, kept_line, passed_line, passed_lines, state_passed, TurnsTo, Stays, IsUnput, IsNotPassed, IsPutFrom, Passes, IsPassedBy, ArePut, TextImported, ListImported}
 use Rattle.cli_store.specs.Reports.{IsReported}
 use Rattle.cli_store.specs.Stores.{StoresOf, IsPut}
 use Rattle.cli_store.specs.ZoneFiles.{ZoneFileOf, zone_file_view}

@@ -1,5 +1,5 @@
 -- Connections that were served, seen by what a table and a listener are made of.
-use Rattle.std.proofs.Common.{◌≡◌, List, [], ◌∷◌, Option, Result, ap}
+use Rattle.std.proofs.Common.{◌≡◌, List, [], ◌∷◌, Result, ap}
 use Rattle.grant_policy.specs.declared.rule.Rule.{Rule}
 use Rattle.cli_core.specs.declared.line_fault.JobFault.{JobFault}
 use Rattle.wire_tcp.specs.Limits.{Limits}

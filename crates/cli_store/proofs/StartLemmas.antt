@@ -1,6 +1,5 @@
 -- The history of starts on one disk.
 use Rattle.std.proofs.Common.{◌≡◌, ◌⊎◌, ◌∙◌, ℕ, Bool, List, [], ◌∷◌, ◌++◌, Option, Some, None, option_map, Result, Ok, Err, IfSome, ◌<◌, refl, sym, ap, subst, inl, inr, append-nil}
-use Rattle.std.specs.Io.KnownBytes.{Appends}
 use Rattle.sqlite_trees.specs.Tree.{Trees}
 use Rattle.sqlite.specs.State.{State as Shown, HasCleanDisk}
 use Rattle.zone_core.specs.Zones.{ZoneOf}
@@ -35,24 +34,22 @@ use Rattle.cli_core.specs.declared.job.StoreJob.{StoreJob}
 use Rattle.cli_core.specs.declared.job.StoreJob.TheVariants as store_job
 use Rattle.cli_core.specs.declared.line_fault.JobFault.{JobFault}
 use Rattle.cli_core.specs.declared.line_fault.LineFault.{LineFault}
-use Rattle.cli_core.specs.declared.words.WordsFault.{WordsFault}
 use Rattle.wire_tcp.specs.Connections.{Visit, Moment, joined, standing_at, AreServed, AreServedFrom}
-use Rattle.cli_store.specs.Export.{IsExported, ZoneExported}
-use Rattle.cli_store.specs.Import.{IsImported, ZoneStored}
-use Rattle.cli_store.specs.ImportList.{Passed, stayed, came, IsNotPassed, ArePut, ListImported, TakesAll, states_passed}
+use Rattle.cli_store.specs.Export.{IsExported}
+use Rattle.cli_store.specs.Import.{IsImported}
+use Rattle.cli_store.specs.ImportList.{Passed, stayed, came, IsNotPassed, ArePut, ListImported, states_passed}
 use Rattle.cli_store.specs.ZoneFiles.{ZoneFileOf, zone_files_read}
-use Rattle.cli_store.specs.Migrate.{StoreMigrated}
-use Rattle.cli_store.specs.Program.{StoreJobEnds, JobEnds, WordsEnd, named, standard, status_of}
+use Rattle.cli_store.specs.Program.{StoreJobEnds, JobEnds, WordsEnd, named, standard}
 use Rattle.cli_store.specs.Puts.{put_into, with_put}
 use Rattle.cli_store.specs.Remove.{IsRemoved}
 use Rattle.cli_store.specs.Reports.{IsReported}
 use Rattle.wire_tcp.specs.Limits.{Limits}
 use Rattle.cli_store.specs.Serve.{TableAt, policy_read, most_of, parties_of, limits_by, asked_by, IsServiceTold, IsServedBy, BeginsBy, Serves}
-use Rattle.cli_store.specs.StoreList.{IsListRead, ZonesPrinted}
-use Rattle.cli_store.specs.StoreLog.{IsLogged, IsLogRead, LogPrinted}
+use Rattle.cli_store.specs.StoreList.{IsListRead}
+use Rattle.cli_store.specs.StoreLog.{IsLogged, IsLogRead}
 use Rattle.cli_store.specs.BlameReceipts.{AreReceiptsRead, AreReceiptsTold, BlameEnds}
-use Rattle.cli_store.specs.ZoneHistory.{blame_asked, blame_text, past_text, undo_text, ExportEnds, IsHistoryRead, IsToldOf, UndoPrinted}
-use Rattle.cli_store.specs.Stores.{StoresOf, IsRead, IsPut, IsUnopened, IsReached, IsUnreached, IsStored, IsGot, IsMigratedStore, stores_of}
+use Rattle.cli_store.specs.ZoneHistory.{blame_asked, blame_text, past_text, undo_text, ExportEnds, IsHistoryRead, IsToldOf}
+use Rattle.cli_store.specs.Stores.{StoresOf, IsRead, IsUnopened, IsReached, IsUnreached, IsStored, IsGot, IsMigratedStore, stores_of}
 use Rattle.cli_store.specs.Starts.{HasState, held, Deed, put, took, state_after_deeds, called_by, Setting, Start, IsStart, MayFollow, AreStarts, Course, deeds_of, IsNothing, IsZoneMade, IsZoneInHand, IsZoneRefused, IsZoneRemoved, IsRemovalRefused, deeds_in, AreZonesMade, AreNoneMade, IsUnserved, moment_of, IsServed, JobMakes, IsCourse, AreCourses, history, StartsHaveOneHistory}
 use Rattle.cli_store.proofs.DeedLemmas.{after_more, called_are, called_more}
 use Rattle.cli_store.proofs.DiskLemmas.{Settles, adopted_holds, made_holds, no_store, unmade, migrated, unmigrated, asked_still, left_still, stays_still, WasPut, put_made, put_refused, taken_out, removal_refused}

@@ -1,6 +1,5 @@
 -- What the program does: the job that the words of its command line ask for, in what is around it, and the status with which it ends.
 use Rattle.std.specs.Prelude.{◌≡◌, ◌≢◌, ◌<◌, ◌⊎◌, ⊤, ℕ, List, [], codes, Option, Some, None, option_map, unwrap_or, Result, Ok, Err, string_bytes}
-use Rattle.std.specs.Borrow.{Bor}
 use Rattle.dns_master.specs.declared.device.DeviceFailed.{DeviceFailed}
 use Rattle.cli_core.specs.declared.commands.check.Check.{Check}
 use Rattle.cli_core.specs.declared.commands.check.CheckSubject.{CheckSubject}

@@ -31,7 +31,6 @@ use Rattle.office_store.specs.MigratedContents.{migrated_content}
 use Rattle.office_store.specs.OldZones.{IsOldContent}
 use Rattle.office_wire.specs.Promises.{calls}
 use Rattle.office_wire.specs.Lifetimes.{IsHand}
-use Rattle.cli_core.specs.Commands.{office}
 use Rattle.cli_core.specs.Device.{AppendsFront}
 use Rattle.cli_core.specs.Jobs.{asks}
 use Rattle.cli_core.specs.LineFaults.{Makes, of_names, of_store}
@@ -43,7 +42,6 @@ use Rattle.cli_core.specs.declared.job.Existing.{Existing}
 use Rattle.cli_core.specs.declared.job.Existing.TheVariants.{Kept as Beside}
 use Rattle.cli_core.specs.declared.job.Job.{Job}
 use Rattle.cli_core.specs.declared.job.Job.TheVariants as job
-use Rattle.cli_core.specs.declared.job.StoreJob.{StoreJob}
 use Rattle.cli_core.specs.declared.job.StoreJob.TheVariants as store_job
 use Rattle.cli_core.specs.declared.line_fault.JobFault.{JobFault}
 use Rattle.cli_core.specs.declared.line_fault.JobFault.TheVariants.{WriteFailed}

@@ -1,13 +1,12 @@
 -- The zones of a list with their files: a line `ORIGIN FILE` for each, of words with blanks between them. A line without words, and one
 -- whose first word begins with `#` or `;`, has none.
-use Rattle.std.specs.Prelude.{ℕ, ◌+◌, ◌==◌, List, [], ◌∷◌, ◌++◌, length, Bool, not, if◌then◌else◌, Option, Some, None, Result, Ok, Err, string_bytes}
+use Rattle.std.specs.Prelude.{ℕ, ◌+◌, ◌==◌, List, [], ◌∷◌, ◌++◌, length, not, if◌then◌else◌, Option, Some, None, Result, Ok, Err}
 use Rattle.std.specs.List.{filter}
 use Rattle.std.specs.Option.{option_to_list}
 use Rattle.std.specs.Str.{is_utf8}
 use Rattle.dns_names.specs.Reading.{absolute_name}
 use Rattle.policy_tools.specs.ExpectationLines.{lines_of}
 use Rattle.policy_tools.specs.ExpectationReading.{parts_of, is_comment}
-use Rattle.cli_core.specs.declared.word_fault.WordFault.{WordFault}
 use Rattle.cli_core.specs.declared.word_fault.WordFault.TheVariants as word
 use Rattle.cli_core.specs.declared.refusal.Refusal.{Refusal}
 use Rattle.cli_core.specs.declared.refusal.Refusal.TheVariants.{Line}

@@ -1,7 +1,6 @@
 use Rattle.std.proofs.Common.{◌∙◌}
 use Rattle.std.proofs.lemmas.Result.{err_from_is_err_and}
 use Rattle.std.specs.Prelude.{string_bytes}
-use Rattle.sqlite.specs.Held.{state}
 use Rattle.store_faults.specs.declared.store_fault.StoreFault.TheVariants as store
 use Rattle.cli_store.specs.ZoneFiles.{zone_file_view}
 use Rattle.cli_store.proofs.ListPutLemmas.{passes_put, passes_kept, passes_none}

@@ -1,5 +1,4 @@
 use Rattle.std.proofs.Common.{ℕ, List, Option, map, ap, ◌∙◌}
-use Rattle.std.specs.Prelude.{string_bytes}
 use Rattle.std.specs.List.{flat_map, zip}
 use Rattle.std.proofs.lemmas.Result.{IfOk-weaker}
 use Rattle.dns_data.specs.declared.record.Record.{Record}

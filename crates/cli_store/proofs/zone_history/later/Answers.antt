@@ -1,4 +1,4 @@
-use Rattle.std.proofs.Common.{◌≡◌, ◌-◌, List, Some, take, drop, length, map, ap, sym, ◌∙◌, arith}
+use Rattle.std.proofs.Common.{◌≡◌, ◌-◌, List, Some, drop, length, map, ap, sym, ◌∙◌, arith}
 use Rattle.std.proofs.lemmas.List.{drop-map, length-drop, length-map, take_all}
 use Rattle.zone_core.specs.declared.change.Change.{Change}
 use Rattle.zone_core.specs.Changes.{ChangeOf, change_in}
