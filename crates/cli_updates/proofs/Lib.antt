@@ -3,6 +3,7 @@ pub mod IdleLineLemmas
 pub mod PlanLemmas
 pub mod PointObjectLemmas
 pub mod PlanObjectLemmas
+pub mod PlanAnswerLemmas
 pub mod GuardLaws
 pub mod OperationLaws
 pub mod BesideLaws

@@ -6,8 +6,8 @@ use Rattle.office_model.specs.declared.reply.UpdateReply.TheVariants.{NoError}
 use Rattle.wire_json.specs.Json.{listed}
 use Rattle.wire_json.specs.Replies.{lines_value, update_body}
 use Rattle.cli_core.specs.declared.job.PlanObject.{PlanObject}
-use Rattle.cli_core.specs.declared.job.PlanObject.TheVariants.{Reply, Explained}
-use Rattle.cli_updates.specs.PlanObjects.{OutcomeOf, refused, made, outcome_object, outcome_text, items_piece, added_by, removed_by}
+use Rattle.cli_core.specs.declared.job.PlanObject.TheVariants.{Reply, Answers, Explained}
+use Rattle.cli_updates.specs.PlanObjects.{OutcomeOf, refused, made, outcome_object, outcome_text, items_piece, piece_of, added_by, removed_by}
 
 -- ---- values with commas between them
 
@@ -36,7 +36,7 @@ bracket : (key list : List ℕ) → key ++ (91 ∷ list ++ 93 ∷ 44 ∷ []) ≡
 bracket key list = ap (λ (l : List ℕ). key ++ 91 ∷ l) (sym (append_assoc list (93 ∷ []) (44 ∷ [])))
 
 pub items_made : (list first second third : List ℕ) → first ≡ codes "\"items\":[" → second ≡ first ++ list → third ≡ second ++ codes "],"
-    → third ≡ items_piece Explained (91 ∷ list ++ 93 ∷ [])
+    → third ≡ items_piece (91 ∷ list ++ 93 ∷ [])
 items_made list first second third p q r =
     r ∙ ap (λ (l : List ℕ). l ++ codes "],") (q ∙ ap (λ (l : List ℕ). l ++ list) p) ∙ append_assoc (codes "\"items\":[") list (codes "],") ∙ bracket (codes "\"items\":") list
 
@@ -59,7 +59,11 @@ join_explained : (key added comma items value then gone removed again reply body
     ≡ (key ++ (added ++ (comma ++ ((items ++ (value ++ then)) ++ (gone ++ (removed ++ again)))))) ++ ((reply ++ body) ++ (serial ++ (digits ++ (end ++ line))))
 join_explained key added comma items value then gone removed again reply body serial digits end line = simp append_assoc
 
-pub object_is : (form : PlanObject) (items : List ℕ) (o : OutcomeOf) → outcome_object form items o ++ 10 ∷ [] ≡ outcome_text (items_piece form items) o
+pub object_is : (form : PlanObject) (value : List ℕ) (o : OutcomeOf) → outcome_object form value o ++ 10 ∷ [] ≡ outcome_text (piece_of form value o) o
+object_is Answers value (refused reply) = join_reply (codes "{") (codes "\"reply\":") (update_body reply) (codes "}") (10 ∷ [])
+object_is Answers value (made change serial) =
+    join_explained (codes "{\"added\":") (lines_value (added_by change)) (codes ",") (codes "\"answers\":") value (codes ",") (codes "\"removed\":")
+    (lines_value (removed_by change)) (codes ",") (codes "\"reply\":") (update_body NoError) (codes ",\"serial\":") (decimal serial) (codes "}") (10 ∷ [])
 object_is Reply items (refused reply) = join_reply (codes "{") (codes "\"reply\":") (update_body reply) (codes "}") (10 ∷ [])
 object_is Explained items (refused reply) =
     join_items (codes "{") (codes "\"items\":") items (codes ",") (codes "\"reply\":") (update_body reply) (codes "}") (10 ∷ [])
@@ -70,9 +74,9 @@ object_is Explained items (made change serial) =
     join_explained (codes "{\"added\":") (lines_value (added_by change)) (codes ",") (codes "\"items\":") items (codes ",") (codes "\"removed\":")
     (lines_value (removed_by change)) (codes ",") (codes "\"reply\":") (update_body NoError) (codes ",\"serial\":") (decimal serial) (codes "}") (10 ∷ [])
 
-pub object_made : (form : PlanObject) (items : List ℕ) (o found : OutcomeOf) (piece text : List ℕ) → piece ≡ items_piece form items → found ≡ o → text ≡ outcome_text piece found
-    → text ≡ outcome_object form items o ++ 10 ∷ []
-object_made form items o found piece text p q r = r ∙ (λ i. outcome_text (p i) (q i)) ∙ sym (object_is form items o)
+pub object_made : (form : PlanObject) (value : List ℕ) (o : OutcomeOf) (piece text : List ℕ) → piece ≡ piece_of form value o → text ≡ outcome_text piece o
+    → text ≡ outcome_object form value o ++ 10 ∷ []
+object_made form value o piece text p r = r ∙ (λ i. outcome_text (p i) o) ∙ sym (object_is form value o)
 
 -- ---- pieces that are appended
 

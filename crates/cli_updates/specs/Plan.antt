@@ -23,6 +23,7 @@ use Rattle.cli_core.specs.declared.job.PlanForm.TheVariants.{Lines, Object}
 use Rattle.cli_core.specs.declared.job.PlanLines.{PlanLines}
 use Rattle.cli_core.specs.declared.job.PlanLines.TheVariants.{Records, Answers, Explained}
 use Rattle.cli_core.specs.declared.job.PlanObject.{PlanObject}
+use Rattle.cli_core.specs.declared.job.PlanObject.TheVariants as plan_object
 use Rattle.cli_core.specs.declared.refusal.Refusal.{Refusal}
 use Rattle.cli_core.specs.declared.refusal.Refusal.TheVariants.{NoDivider}
 use Rattle.cli_core.specs.declared.line_fault.JobFault.{JobFault}
@@ -33,6 +34,8 @@ use Rattle.cli_core.specs.Replies.{Answered}
 use Rattle.cli_text.specs.Parts.{divided}
 use Rattle.cli_text.specs.Apply.{zone_of_text, update_behind}
 use Rattle.cli_text.specs.ChangedAnswerLines.{AreAnswerLines}
+use Rattle.cli_text.specs.LineObjects.{objects_array}
+use Rattle.cli_text.specs.declared.line_objects.LineKind.TheVariants as kind
 use Rattle.cli_text.specs.Rights.{caller_in}
 use Rattle.cli_updates.specs.Explained.{update_lines}
 use Rattle.cli_updates.specs.IdleLines.{idle_lines}
@@ -131,15 +134,23 @@ ArePlanLines Answers asker u text = IsReplyText Answers asker u text
 ArePlanLines Explained asker u text =
     text ≡ update_lines asker.rules asker.caller u.zone.origin u.update ++ (planned asker u ++ idle_lines_of u (plan_refusal asker u))
 
--- the object that is printed: what becomes of the update, and of a plan that explains what is decided of all that the items ask for
-abbrev pub plan_object : PlanObject → AskerOf → ZoneUpdateOf → List ℕ
-plan_object object asker u =
-    outcome_object object (items_value asker.rules asker.caller u.zone.origin u.update) (outcome_of u.zone u.update (plan_refusal asker u))
+-- the object of what becomes of the update, with a value as its member more, and a line end
+abbrev pub object_with : PlanObject → List ℕ → AskerOf → ZoneUpdateOf → List ℕ
+object_with object value asker u = outcome_object object value (outcome_of u.zone u.update (plan_refusal asker u)) ++ 10 ∷ []
+
+-- the object that is printed: of a plan that explains with what is decided of all that the items ask for; and in a form with the questions
+-- that a server answers otherwise after an update that is made, as an array of the objects of their lines
+abbrev pub IsPlanObject : PlanObject → AskerOf → ZoneUpdateOf → List ℕ → Type 0
+IsPlanObject plan_object.Reply asker u text = text ≡ object_with plan_object.Reply [] asker u
+IsPlanObject plan_object.Answers asker u text =
+    (lines : List ℕ) × AreLinesOf u (plan_refusal asker u) lines × (text ≡ object_with plan_object.Answers (objects_array kind.Questions lines) asker u)
+IsPlanObject plan_object.Explained asker u text =
+    text ≡ object_with plan_object.Explained (items_value asker.rules asker.caller u.zone.origin u.update) asker u
 
 -- what is printed, in a form
 abbrev pub IsPlanText : PlanForm → AskerOf → ZoneUpdateOf → List ℕ → Type 0
 IsPlanText (Lines lines) asker u text = ArePlanLines lines asker u text
-IsPlanText (Object object) asker u text = text ≡ plan_object object asker u ++ 10 ∷ []
+IsPlanText (Object object) asker u text = IsPlanObject object asker u text
 
 -- what is appended in a form to a text, of a zone and an update of it
 abbrev pub AreLinesAfter : PlanLines → ZoneOf → UpdateOf → List ℕ → List ℕ → Type 0

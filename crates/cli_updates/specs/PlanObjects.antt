@@ -11,7 +11,7 @@ use Rattle.office_core.specs.Steps.{change_made}
 use Rattle.wire_json.specs.Json.{member, object}
 use Rattle.wire_json.specs.Replies.{lines_value, update_body}
 use Rattle.cli_core.specs.declared.job.PlanObject.{PlanObject}
-use Rattle.cli_core.specs.declared.job.PlanObject.TheVariants.{Reply, Explained}
+use Rattle.cli_core.specs.declared.job.PlanObject.TheVariants.{Reply, Answers, Explained}
 use Rattle.cli_updates.specs.declared.plan_object.Outcome.{Outcome}
 use Rattle.cli_updates.specs.declared.plan_object.Outcome.TheVariants as outcome
 
@@ -41,26 +41,44 @@ abbrev pub removed_by : Option ChangeOf → List Record
 removed_by None = []
 removed_by (Some c) = c.removed
 
--- of a plan that explains, what is decided of all that the items ask for stands before other members
+-- a value, as the member of a plan that explains, before other members
 abbrev pub before_reply : PlanObject → List ℕ → List (List ℕ) → List (List ℕ)
-before_reply Reply items more = more
-before_reply Explained items more = member (codes "items") items ∷ more
+before_reply Reply value more = more
+before_reply Answers value more = more
+before_reply Explained value more = member (codes "items") value ∷ more
 
--- the reply as the office answers it; and of an update that is made the records that come and go, and the serial, by keys in byte order
+-- the same, or as that of the questions that a server answers otherwise after an update that is made
+abbrev pub before_removed : PlanObject → List ℕ → List (List ℕ) → List (List ℕ)
+before_removed Reply value more = more
+before_removed Answers value more = member (codes "answers") value ∷ more
+before_removed Explained value more = member (codes "items") value ∷ more
+
+-- The reply as the office answers it; and of an update that is made the records that come and go, and the serial; and in forms a member
+-- more. The keys are in byte order.
 abbrev pub outcome_object : PlanObject → List ℕ → OutcomeOf → List ℕ
-outcome_object form items (refused reply) = object (before_reply form items (member (codes "reply") (update_body reply) ∷ []))
-outcome_object form items (made change serial) =
+outcome_object form value (refused reply) = object (before_reply form value (member (codes "reply") (update_body reply) ∷ []))
+outcome_object form value (made change serial) =
     object
     (member (codes "added") (lines_value (added_by change))
-    ∷ before_reply form items
+    ∷ before_removed form value
     (member (codes "removed") (lines_value (removed_by change)) ∷ member (codes "reply") (update_body NoError) ∷ member (codes "serial") (decimal serial) ∷ []))
 
 -- ---- piece by piece
 
 -- the items, and the comma after them
-abbrev pub items_piece : PlanObject → List ℕ → List ℕ
-items_piece Reply items = []
-items_piece Explained items = codes "\"items\":" ++ (items ++ 44 ∷ [])
+abbrev pub items_piece : List ℕ → List ℕ
+items_piece items = codes "\"items\":" ++ (items ++ 44 ∷ [])
+
+-- the questions, and the comma after them
+abbrev pub answers_piece : List ℕ → List ℕ
+answers_piece questions = codes "\"answers\":" ++ (questions ++ 44 ∷ [])
+
+-- the member more of an outcome, and the comma after it
+abbrev pub piece_of : PlanObject → List ℕ → OutcomeOf → List ℕ
+piece_of Reply value o = []
+piece_of Answers value (refused reply) = []
+piece_of Answers value (made change serial) = answers_piece value
+piece_of Explained value o = items_piece value
 
 abbrev pub reply_piece : UpdateReply → List ℕ
 reply_piece reply = codes "\"reply\":" ++ update_body reply

@@ -1,14 +1,18 @@
 //! What the office would answer to an update of a zone.
 
-ghost use Rattle.std.specs.Prelude.{◌≡◌, ◌++◌, ◌∷◌, [], ◌<◌, ℕ, IfOk, OnOk, option_map, string_bytes};
+ghost use Rattle.std.specs.Prelude.{◌≡◌, ◌++◌, ◌∷◌, [], ◌<◌, ℕ, List, IfOk, OnOk, option_map, string_bytes};
 ghost use Rattle.zone_core.specs.Changes.{change_in};
 ghost use Rattle.zone_core.specs.Updates.{ActsWithin};
 ghost use Rattle.zone_core.specs.Effects.{zone_after};
 ghost use Rattle.cli_core.specs.LineFaults.{Gives, GivesOf};
 ghost use Rattle.cli_updates.specs.Texts.{GivesText, Told};
-ghost use Rattle.cli_updates.specs.Plan.{asker_in, asker_of, asker_read, reply_line, signed_lines, change_lines, serial_line, zone_update, zone_update_in, zone_update_read, plan_refusal, plan_object, AreLinesAfter, ArePlanLines, IsReplyText, IsPlanText, IsAskerRead, IsPlanned};
+ghost use Rattle.cli_updates.specs.Plan.{asker_in, asker_of, asker_read, reply_line, signed_lines, change_lines, serial_line, zone_update, zone_update_in, zone_update_read, plan_refusal, AreLinesAfter, ArePlanLines, IsReplyText, IsPlanObject, IsPlanText, IsAskerRead, IsPlanned};
 ghost use Rattle.cli_updates.specs.Explained.{update_texts};
-ghost use Rattle.cli_updates.specs.PlanObjects.{items_piece, outcome_in, outcome_of};
+ghost use Rattle.zone_core.specs.Zones.{serial_of};
+ghost use Rattle.cli_text.specs.ChangedAnswerLines.{AreAnswerLines};
+ghost use Rattle.cli_text.specs.LineObjects.{objects_array};
+ghost use Rattle.cli_text.specs.declared.line_objects.LineKind.TheVariants as kind;
+ghost use Rattle.cli_updates.specs.PlanObjects.{answers_piece, items_piece, made, outcome_in, outcome_of, outcome_text};
 ghost use Rattle.cli_updates.specs.PointObjects.{items_value};
 
 use crate::explained::Explainer;
@@ -19,7 +23,9 @@ use cli_core::{
     Input, JobFault, LineFault, PlanForm, PlanLines, PlanObject, TextForm, read_input,
     write_octets, write_refusal,
 };
-use cli_text::{InputRead, answer_lines, read_caller, read_parts, zone_of_records};
+use cli_text::{
+    InputRead, LineKind, answer_lines, objects_array, read_caller, read_parts, zone_of_records,
+};
 use dns_data::Record;
 use dns_master::Sink;
 use grant_policy::{Identifier, Policy, read_policy};
@@ -196,7 +202,7 @@ fn lines_text(
 /// The member of what the policy decides of each item, and a comma. The only error is out of memory.
 fn all_items(alloc: Global, asker: &Asker, asked: &ZoneUpdate) -> Result<Vec<u8>, AllocError>
     ensures { IfOk result
-        (λ text. text.items ≡ items_piece PlanObject.Explained (items_value asker.now.policy asker.now.caller asked.now.zone.origin asked.now.update)) }
+        (λ text. text.items ≡ items_piece (items_value asker.now.policy asker.now.caller asked.now.zone.origin asked.now.update)) }
 {
     let mut items = decided_items(alloc, asker, TextForm::Json, asked)?;
     // An array has commas only between its values (RFC 8259 section 5).
@@ -205,21 +211,6 @@ fn all_items(alloc: Global, asker: &Asker, asked: &ZoneUpdate) -> Result<Vec<u8>
     text.extend_from_slice(&items)?;
     text.extend_from_slice(b"],")?;
     Ok(text)
-}
-
-/// That member, if the object has it. The only error is out of memory.
-fn items_if(
-    alloc: Global,
-    asker: &Asker,
-    object: PlanObject,
-    asked: &ZoneUpdate,
-) -> Result<Vec<u8>, AllocError>
-    ensures { IfOk result (λ text. text.items ≡ items_piece object (items_value asker.now.policy asker.now.caller asked.now.zone.origin asked.now.update)) }
-{
-    match object {
-        PlanObject::Reply => Ok(Vec::new(alloc)),
-        PlanObject::Explained => all_items(alloc, asker, asked),
-    }
 }
 
 /// What becomes of an update of a zone. The only error is out of memory.
@@ -238,6 +229,79 @@ fn outcome_of(alloc: Global, asker: &Asker, asked: ZoneUpdate) -> Result<Outcome
     }
 }
 
+/// The object of an outcome with a member more, and a line end. The only error is out of memory.
+fn outcome_text(alloc: Global, piece: &[u8], outcome: Outcome) -> Result<Vec<u8>, AllocError>
+    ensures { IfOk result (λ text. text.items ≡ outcome_text piece.now (outcome_in outcome)) }
+{
+    let mut text = Vec::new(alloc);
+    push_outcome(alloc, &mut text, piece, outcome)?;
+    Ok(text)
+}
+
+/// The object of what becomes of an update of a zone, with a member more, and a line end. The only error is out of memory.
+fn object_with(
+    alloc: Global,
+    asker: &Asker,
+    piece: &[u8],
+    asked: ZoneUpdate,
+) -> Result<Vec<u8>, AllocError>
+    ensures { IfOk result
+        (λ text. text.items ≡ outcome_text piece.now (outcome_of asked.zone asked.update (plan_refusal (asker_in asker.now) (zone_update asked)))) }
+{
+    let outcome = outcome_of(alloc, asker, asked)?;
+    outcome_text(alloc, piece, outcome)
+}
+
+/// The object with what is decided of each item. The only error is out of memory.
+fn explained_object(alloc: Global, asker: &Asker, asked: ZoneUpdate) -> Result<Vec<u8>, AllocError>
+    ensures { IfOk result (λ text. IsPlanObject PlanObject.Explained (asker_in asker.now) (zone_update asked) text.items) }
+{
+    let items = all_items(alloc, asker, &asked)?;
+    object_with(alloc, asker, &items, asked)
+}
+
+/// The member of the questions of lines, and a comma. The only error is out of memory.
+fn answers_member(alloc: Global, lines: &[u8]) -> Result<Vec<u8>, AllocError>
+    ensures { IfOk result (λ text. text.items ≡ answers_piece (objects_array kind.Questions lines.now)) }
+{
+    let questions = objects_array(alloc, LineKind::Questions, lines)?;
+    let mut text = Vec::from_slice(alloc, r#""answers":"#.as_bytes())?;
+    text.extend_from_slice(&questions)?;
+    text.push(b',')?;
+    Ok(text)
+}
+
+/// The object of an update that is made, with the questions that a server answers otherwise after it. The only error is out of memory.
+fn made_object(
+    alloc: Global,
+    zone: Zone,
+    update: &Update,
+    change: Option<Change>,
+) -> Result<Vec<u8>, AllocError>
+    requires { ActsWithin zone.origin update.now }
+    ensures { IfOk result
+        (λ text. (lines : List ℕ) × AreAnswerLines zone (zone_after zone update.now) lines
+        × (text.items ≡ outcome_text (answers_piece (objects_array kind.Questions lines)) (made (option_map change_in change) (serial_of (zone_after zone update.now))))) }
+{
+    let outcome = apply(alloc, &zone, update)?;
+    let serial = outcome.zone.serial();
+    let lines = answer_lines(alloc, zone, outcome.zone)?;
+    let member = answers_member(alloc, lines.as_bytes())?;
+    outcome_text(alloc, &member, Outcome::Made { change, serial })
+}
+
+/// The object with the questions that a server answers otherwise after an update that is made. The only error is out of memory.
+fn answers_object(alloc: Global, asker: &Asker, asked: ZoneUpdate) -> Result<Vec<u8>, AllocError>
+    ensures { IfOk result (λ text. IsPlanObject PlanObject.Answers (asker_in asker.now) (zone_update asked) text.items) }
+{
+    let ZoneUpdate { zone, update } = asked;
+    let (reply, change) = plan(alloc, &asker.policy, &asker.caller, &zone, &update)?;
+    match reply {
+        UpdateReply::NoError => made_object(alloc, zone, &update, change),
+        refused => outcome_text(alloc, &[], Outcome::Refused(refused)),
+    }
+}
+
 /// The object that is printed of an update of a zone, and a line end. The only error is out of memory.
 fn object_text(
     alloc: Global,
@@ -245,13 +309,13 @@ fn object_text(
     object: PlanObject,
     asked: ZoneUpdate,
 ) -> Result<Vec<u8>, AllocError>
-    ensures { IfOk result (λ text. text.items ≡ plan_object object (asker_in asker.now) (zone_update asked) ++ 10 ∷ []) }
+    ensures { IfOk result (λ text. IsPlanObject object (asker_in asker.now) (zone_update asked) text.items) }
 {
-    let items = items_if(alloc, asker, object, &asked)?;
-    let outcome = outcome_of(alloc, asker, asked)?;
-    let mut text = Vec::new(alloc);
-    push_outcome(alloc, &mut text, &items, outcome)?;
-    Ok(text)
+    match object {
+        PlanObject::Reply => object_with(alloc, asker, &[], asked),
+        PlanObject::Answers => answers_object(alloc, asker, asked),
+        PlanObject::Explained => explained_object(alloc, asker, asked),
+    }
 }
 
 /// What is printed of an update of a zone, in a form. The only error is out of memory.
