@@ -1,9 +1,7 @@
-use Rattle.std.proofs.Common.{◌∙◌, ap, sym, option_map, []}
+use Rattle.std.proofs.Common.{option_map}
 use Rattle.std.proofs.lemmas.Result.{IfOk-weaker}
 use Rattle.zone_core.specs.Changes.{change_in}
-use Rattle.office_model.specs.declared.reply.UpdateReply.{UpdateReply}
 use Rattle.cli_updates.specs.Plan.{asker_in}
-use Rattle.cli_updates.specs.PlanObjects.{outcome_text, refused}
 use Rattle.cli_updates.proofs.PlanAnswerLemmas.{object_of_made, object_of_refused}
 use Rattle.cli_updates.proofs.plan.answers_object.Goals as goal
 
@@ -17,7 +15,6 @@ returns-in-NoError c =
 pub returns-in_default : goal.returns-in_default
 returns-in_default c =
     let change = option_map change_in c.in_ok-reply.change in
-    let same = ap (λ (r : UpdateReply). outcome_text [] (refused r)) (sym c.in_default.refused-is) in
     IfOk-weaker c.outcome_text.result _ _
-    (λ text e. object_of_refused (asker_in c.args.asker.now) c.args.asked.zone c.args.asked.update c.in_ok-reply.reply change text.items c.in_ok-reply.ensures.exact c.in_default.not-NoError (e ∙ same))
+    (λ text e. object_of_refused (asker_in c.args.asker.now) c.args.asked.zone c.args.asked.update c.in_ok-reply.reply change text.items c.in_ok-reply.ensures.exact c.in_default.not-NoError e)
     c.outcome_text.ensures
