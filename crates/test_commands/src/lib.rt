@@ -12,8 +12,8 @@
 //! `diff-guarded-sets` those on sets only; `edit ORIGIN`, `edit-guarded` and `edit-guarded-sets` print what `apply` makes of the first and
 //! the items; in `diff-reads` the first read of each file fails, and in `diff-write` the first write.
 //!
-//! `plan CALLER` gives a policy, and after a line `==` what `apply` reads, to the command, and `plan-answers`, `plan-explained`, `plan-json` and
-//! `plan-explained-json` ask for these forms; in `plan-reads` the first read of each input
+//! `plan CALLER` gives a policy, and after a line `==` what `apply` reads, to the command, and `plan-answers`, `plan-explained`, `plan-json`,
+//! `plan-answers-json` and `plan-explained-json` ask for these forms; in `plan-reads` the first read of each input
 //! fails, and in `plan-write` the first write.
 //!
 //! `reach CALLER|ORIGIN` gives a policy, and after a line `==` a master file, to the command; in `reach-reads` the first read of each input

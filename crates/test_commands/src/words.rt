@@ -324,6 +324,7 @@ fn plan_text(form: PlanForm) -> &'static str {
         PlanForm::Lines(PlanLines::Answers) => " answers",
         PlanForm::Lines(PlanLines::Explained) => " explained",
         PlanForm::Object(PlanObject::Reply) => " json",
+        PlanForm::Object(PlanObject::Answers) => " answers json",
         PlanForm::Object(PlanObject::Explained) => " explained json",
     }
 }

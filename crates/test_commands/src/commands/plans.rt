@@ -52,6 +52,7 @@ fn form_of(verb: &str) -> PlanForm {
         "plan-answers" => PlanForm::Lines(PlanLines::Answers),
         "plan-explained" => PlanForm::Lines(PlanLines::Explained),
         "plan-json" => PlanForm::Object(PlanObject::Reply),
+        "plan-answers-json" => PlanForm::Object(PlanObject::Answers),
         "plan-explained-json" => PlanForm::Object(PlanObject::Explained),
         _ => PlanForm::Lines(PlanLines::Records),
     }
