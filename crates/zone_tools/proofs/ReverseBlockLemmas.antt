@@ -1,20 +1,21 @@
 -- Blocks of addresses, and the names below their origins.
-use Rattle.std.proofs.Common.{◌≡◌, ℕ, ◌<◌, ◌≤◌, true, cond, nat_le, List, [], ◌∷◌, ◌++◌, length, drop, get_or, map, reverse, Option, Some, None, Ok, decimal, refl, sym, ap, subst, ◌∙◌, arith, inr}
+use Rattle.std.proofs.Common.{◌≡◌, ℕ, ◌⊎◌, ◌+◌, ◌<◌, ◌≤◌, Bool, true, false, true≢false, cond, ◌||◌, nat_le, nat_lt, List, [], ◌∷◌, ◌++◌, length, drop, get_or, map, reverse, Option, Some, None, Ok, decimal, refl, sym, ap, subst, ◌∙◌, arith, inl, inr, length-append}
 use Rattle.std.specs.Option.{option_map}
 use Rattle.std.specs.Str.Parse.{digits_value, digits_value_after}
 use Rattle.std.specs.declared.net.ipv4_addr.Ipv4Addr.{Ipv4Addr}
+use Rattle.std.specs.declared.net.ipv6_addr.Ipv6Addr.{Ipv6Addr}
 use Rattle.std.specs.Net.Addr.{ipv4_octets, IsIpv4Addr}
 use Rattle.std.proofs.lemmas.Bool.Decides.{nat_tests, same_from_decides}
 use Rattle.std.proofs.lemmas.List.{at_drop_all}
-use Rattle.dns_names.specs.Labels.{IsName, wire_len}
+use Rattle.dns_names.specs.Labels.{IsName, IsWithin, is_within, wire_len}
 use Rattle.dns_names.specs.Order.{same_name}
 use Rattle.dns_names.specs.Reading.{relative_name}
-use Rattle.dns_names.proofs.NameLemmas.{same_name-Decides}
+use Rattle.dns_names.proofs.NameLemmas.{same_name-Decides, is_within-Decides}
 use Rattle.dns_names.proofs.ReadingLaws.{relative_only}
 use Rattle.zone_tools.specs.declared.reverse_blocks.OctetRange.{OctetRange}
 use Rattle.zone_tools.specs.declared.reverse_blocks.Block.{Block}
-use Rattle.zone_tools.specs.HostNames.{ipv4_names}
-use Rattle.zone_tools.specs.ReverseNames.{ipv4_name, range_of, block_of}
+use Rattle.zone_tools.specs.HostNames.{ipv4_names, ipv6_names}
+use Rattle.zone_tools.specs.ReverseNames.{ipv4_name, ipv6_name, range_of, block_of, ipv6_place, may_have_ipv6}
 use Rattle.zone_tools.proofs.ReverseNameLemmas.{decimal_is_label, decimal_spelled, decimal_short, not_at, ipv4_len}
 
 abbrev pub Name : Type 0
@@ -86,3 +87,34 @@ pub begins_with_last : (address : Ipv4Addr) (name : Name) (octets : List ℕ) �
 begins_with_last address name octets four is are =
     let found = first_label (ipv4_octets address) four.0 in
     (found.0, is ∙ found.1 ∙ ap (λ (os : List ℕ). decimal (get_or os 3 0) ∷ found.0) (sym are))
+
+-- ---- names of IPv6 addresses
+
+-- what ends a name within ip6.arpa is within it too, or has fewer labels
+ends_of_ipv6 : (xs front origin : Name) → xs ++ ipv6_names ≡ front ++ origin → IsWithin origin ipv6_names ⊎ (length origin < 2)
+ends_of_ipv6 xs [] origin e = inl (xs, sym e)
+ends_of_ipv6 [] (label ∷ front) origin e =
+    inr (omega (arith, ap (λ (n : Name). length n) e, length-append front origin))
+ends_of_ipv6 (x ∷ xs) (label ∷ front) origin e = ends_of_ipv6 xs front origin cc
+
+or_of : (a b : Bool) → (a ≡ true) ⊎ (b ≡ true) → (a || b) ≡ true
+or_of a b (inl e) = ap (λ (c : Bool). c || b) e
+or_of true b (inr e) = refl
+or_of false b (inr e) = e
+
+origin_of_ipv6 : (origin : Name) (address : Ipv6Addr) → is_within (ipv6_name address) origin ≡ true → may_have_ipv6 origin ≡ true
+origin_of_ipv6 origin address e =
+    let within = (is_within-Decides (ipv6_name address) origin).0 e in
+    or_of (is_within origin ipv6_names) (nat_lt (length origin) 2)
+    (elim (ends_of_ipv6 _ within.0 origin within.1) [
+      | inl own ↦ inl ((is_within-Decides origin ipv6_names).1 own)
+      | inr few ↦ inr (grind (arith, nat_tests, few))
+    ])
+
+-- an origin that is neither has no place for an IPv6 address
+pub no_ipv6 : (origin : Name) (address : Ipv6Addr) → may_have_ipv6 origin ≡ false → ipv6_place origin address ≡ None
+no_ipv6 origin address e = by_within (is_within (ipv6_name address) origin) refl
+  where
+    by_within : (b : Bool) → is_within (ipv6_name address) origin ≡ b → cond b (Some (ipv6_name address)) None ≡ None
+    by_within true w = absurd (true≢false (sym (origin_of_ipv6 origin address w) ∙ e))
+    by_within false w = refl

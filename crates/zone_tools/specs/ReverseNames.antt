@@ -1,6 +1,6 @@
 -- The reverse names of addresses (RFC 1035 section 3.5, RFC 3596 section 2.5), and the names at which a reverse zone has them, also
 -- where its origin names a block of fewer than 256 addresses (RFC 2317 section 4).
-use Rattle.std.specs.Prelude.{◌≡◌, ◌⊎◌, ℕ, ◌+◌, ◌-◌, ◌/◌, ◌%◌, ◌^◌, ◌≤◌, List, [], ◌∷◌, ◌++◌, map, reverse, take, drop, slice_index, Bool, ◌&&◌, ◌||◌, ◌==◌, nat_le, if◌then◌else◌, Option, Some, None, option_and_then, decimal}
+use Rattle.std.specs.Prelude.{◌≡◌, ◌⊎◌, ℕ, ◌+◌, ◌-◌, ◌/◌, ◌%◌, ◌^◌, ◌≤◌, List, [], ◌∷◌, ◌++◌, map, reverse, take, drop, slice_index, Bool, ◌&&◌, ◌||◌, ◌==◌, nat_le, nat_lt, length, if◌then◌else◌, Option, Some, None, option_and_then, decimal}
 use Rattle.std.specs.List.{list_any, position}
 use Rattle.std.specs.Option.{option_map, option_or}
 use Rattle.std.specs.Char.{digit_char}
@@ -139,6 +139,10 @@ block_place origin (Some block) address = if has_address block address then Some
 
 abbrev pub ipv4_place : List (List ℕ) → Ipv4Addr → Option (List (List ℕ))
 ipv4_place origin address = if is_within (ipv4_name address) origin then Some (ipv4_name address) else block_place origin (block_of origin) address
+
+-- whether names of IPv6 addresses may be within the origin: only if it is within ip6.arpa, or has fewer labels than that
+abbrev pub may_have_ipv6 : List (List ℕ) → Bool
+may_have_ipv6 origin = is_within origin ipv6_names || nat_lt (length origin) 2
 
 abbrev pub ipv6_place : List (List ℕ) → Ipv6Addr → Option (List (List ℕ))
 ipv6_place origin address = if is_within (ipv6_name address) origin then Some (ipv6_name address) else None

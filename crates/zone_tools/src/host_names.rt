@@ -155,7 +155,7 @@ fn is_of_ipv4(name: &Name) -> bool
 }
 
 /// Whether a name is within `ip6.arpa`.
-fn is_of_ipv6(name: &Name) -> bool
+pub(crate) fn is_of_ipv6(name: &Name) -> bool
     ensures { result ≡ is_within name.now ipv6_names }
 {
     name.key().starts_with(b"arpa\0ip6\0")

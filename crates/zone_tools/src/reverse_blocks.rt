@@ -7,8 +7,9 @@ ghost use Rattle.std.specs.Net.Addr.{IsIpv4Addr};
 ghost use Rattle.dns_names.specs.Labels.{wire_len};
 ghost use Rattle.dns_names.specs.Order.{same_name};
 ghost use Rattle.dns_data.specs.Numbers.{is_number};
-ghost use Rattle.zone_tools.specs.ReverseNames.{octet_of, prefixed, prefix_size, is_whole, ranged, hyphened, is_mark, marked, range, range_of, block_of, has_octet, ipv4_name, block_place, ipv4_place, ipv6_place, place_of};
+ghost use Rattle.zone_tools.specs.ReverseNames.{octet_of, prefixed, prefix_size, is_whole, ranged, hyphened, is_mark, marked, range, range_of, block_of, has_octet, ipv4_name, block_place, ipv4_place, ipv6_place, may_have_ipv6, place_of};
 
+use crate::host_names::is_of_ipv6;
 use crate::reverse_names::{ipv4_name, ipv6_name};
 use dns_data::{Data, is_number};
 use dns_names::Name;
@@ -273,10 +274,22 @@ fn ipv4_place(
     }
 }
 
+/// Whether names of IPv6 addresses may be within an origin.
+fn may_have_ipv6(origin: &Name) -> bool
+    ensures { result ≡ may_have_ipv6 origin.now }
+{
+    is_of_ipv6(origin) || origin.labels().count() < 2
+}
+
 /// The name at which a reverse zone of this origin has an IPv6 address. The only error is out of memory.
+#[tactic(auto, using(crate::proofs::ReverseBlockLemmas::no_ipv6))]
 fn ipv6_place(alloc: Global, origin: &Name, address: Ipv6Addr) -> Result<Option<Name>, AllocError>
     ensures { IfOk result (λ place. place ≡ ipv6_place origin.now address) }
 {
+    // Most origins have addresses of one kind, and no name has to be made of the others.
+    if !may_have_ipv6(origin) {
+        return Ok(None);
+    }
     let name = ipv6_name(alloc, address)?;
     if name.is_within(origin) {
         Ok(Some(name))
