@@ -1,6 +1,6 @@
 -- The reverse names of addresses (RFC 1035 section 3.5, RFC 3596 section 2.5), and the names at which a reverse zone has them, also
 -- where its origin names a block of fewer than 256 addresses (RFC 2317 section 4).
-use Rattle.std.specs.Prelude.{◌≡◌, ◌⊎◌, ℕ, ◌+◌, ◌-◌, ◌/◌, ◌%◌, ◌^◌, ◌≤◌, List, [], ◌∷◌, ◌++◌, map, reverse, take, drop, slice_index, Bool, ◌&&◌, ◌||◌, ◌==◌, nat_le, if◌then◌else◌, Option, Some, None, option_and_then, decimal}
+use Rattle.std.specs.Prelude.{◌≡◌, ◌⊎◌, ℕ, ◌+◌, ◌-◌, ◌/◌, ◌%◌, ◌^◌, ◌≤◌, List, [], ◌∷◌, ◌++◌, map, reverse, take, drop, slice_index, Bool, ◌&&◌, ◌||◌, ◌==◌, nat_le, nat_lt, length, if◌then◌else◌, Option, Some, None, option_and_then, decimal}
 use Rattle.std.specs.List.{list_any, position}
 use Rattle.std.specs.Option.{option_map, option_or}
 use Rattle.std.specs.Char.{digit_char}
@@ -137,8 +137,17 @@ abbrev pub block_place : List (List ℕ) → Option Block → Ipv4Addr → Optio
 block_place origin None address = None
 block_place origin (Some block) address = if has_address block address then Some (decimal (last_octet address) ∷ origin) else None
 
+-- whether names of IPv4 addresses, or of the networks of blocks, may be within the origin or that of its network: only if the origin is
+-- within in-addr.arpa, or has few labels
+abbrev pub may_have_ipv4 : List (List ℕ) → Bool
+may_have_ipv4 origin = is_within origin ipv4_names || nat_lt (length origin) 3
+
 abbrev pub ipv4_place : List (List ℕ) → Ipv4Addr → Option (List (List ℕ))
 ipv4_place origin address = if is_within (ipv4_name address) origin then Some (ipv4_name address) else block_place origin (block_of origin) address
+
+-- whether names of IPv6 addresses may be within the origin: only if it is within ip6.arpa, or has fewer labels than that
+abbrev pub may_have_ipv6 : List (List ℕ) → Bool
+may_have_ipv6 origin = is_within origin ipv6_names || nat_lt (length origin) 2
 
 abbrev pub ipv6_place : List (List ℕ) → Ipv6Addr → Option (List (List ℕ))
 ipv6_place origin address = if is_within (ipv6_name address) origin then Some (ipv6_name address) else None

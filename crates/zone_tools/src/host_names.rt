@@ -148,14 +148,14 @@ fn has_fit_names(rdata: &Data) -> bool
 }
 
 /// Whether a name is within `in-addr.arpa`, by whose key its own begins.
-fn is_of_ipv4(name: &Name) -> bool
+pub(crate) fn is_of_ipv4(name: &Name) -> bool
     ensures { result ≡ is_within name.now ipv4_names }
 {
     name.key().starts_with(b"arpa\0in-addr\0")
 }
 
 /// Whether a name is within `ip6.arpa`.
-fn is_of_ipv6(name: &Name) -> bool
+pub(crate) fn is_of_ipv6(name: &Name) -> bool
     ensures { result ≡ is_within name.now ipv6_names }
 {
     name.key().starts_with(b"arpa\0ip6\0")

@@ -7,8 +7,9 @@ ghost use Rattle.std.specs.Net.Addr.{IsIpv4Addr};
 ghost use Rattle.dns_names.specs.Labels.{wire_len};
 ghost use Rattle.dns_names.specs.Order.{same_name};
 ghost use Rattle.dns_data.specs.Numbers.{is_number};
-ghost use Rattle.zone_tools.specs.ReverseNames.{octet_of, prefixed, prefix_size, is_whole, ranged, hyphened, is_mark, marked, range, range_of, block_of, has_octet, ipv4_name, block_place, ipv4_place, ipv6_place, place_of};
+ghost use Rattle.zone_tools.specs.ReverseNames.{octet_of, prefixed, prefix_size, is_whole, ranged, hyphened, is_mark, marked, range, range_of, block_of, has_octet, ipv4_name, block_place, ipv4_place, ipv6_place, may_have_ipv4, may_have_ipv6, place_of};
 
+use crate::host_names::{is_of_ipv4, is_of_ipv6};
 use crate::reverse_names::{ipv4_name, ipv6_name};
 use dns_data::{Data, is_number};
 use dns_names::Name;
@@ -253,7 +254,15 @@ fn place_in(
     Ok(Some(labelled(alloc, octet, origin)?))
 }
 
+/// Whether names of IPv4 addresses may be within an origin, or be those of a block that it names.
+fn may_have_ipv4(origin: &Name) -> bool
+    ensures { result ≡ may_have_ipv4 origin.now }
+{
+    is_of_ipv4(origin) || origin.labels().count() < 3
+}
+
 /// The name at which a reverse zone of this origin has an IPv4 address. The only error is out of memory.
+#[tactic(auto, using(crate::proofs::ReverseBlockLemmas::no_ipv4))]
 fn ipv4_place(
     alloc: Global,
     origin: &Name,
@@ -263,6 +272,10 @@ fn ipv4_place(
     requires { block.now ≡ block_of origin.now }
     ensures { IfOk result (λ place. place ≡ ipv4_place origin.now address) }
 {
+    // Most origins have addresses of one kind, and no name has to be made of the others.
+    if !may_have_ipv4(origin) {
+        return Ok(None);
+    }
     let name = ipv4_name(alloc, address)?;
     if name.is_within(origin) {
         return Ok(Some(name));
@@ -273,10 +286,21 @@ fn ipv4_place(
     }
 }
 
+/// Whether names of IPv6 addresses may be within an origin.
+fn may_have_ipv6(origin: &Name) -> bool
+    ensures { result ≡ may_have_ipv6 origin.now }
+{
+    is_of_ipv6(origin) || origin.labels().count() < 2
+}
+
 /// The name at which a reverse zone of this origin has an IPv6 address. The only error is out of memory.
+#[tactic(auto, using(crate::proofs::ReverseBlockLemmas::no_ipv6))]
 fn ipv6_place(alloc: Global, origin: &Name, address: Ipv6Addr) -> Result<Option<Name>, AllocError>
     ensures { IfOk result (λ place. place ≡ ipv6_place origin.now address) }
 {
+    if !may_have_ipv6(origin) {
+        return Ok(None);
+    }
     let name = ipv6_name(alloc, address)?;
     if name.is_within(origin) {
         Ok(Some(name))
