@@ -358,7 +358,8 @@ def who_broke_it(phys, named):
 
 
 def live_of(browser, named):
-    """What the page says of the publication, once the files of users are written anew."""
+    """What the page says of the publication, once the files of users are written anew, in a later second than the last change: it compares seconds."""
+    time.sleep(1.1)
     named.write()
     browser.open()
     browser.wait("!document.getElementById('live').hidden", "the state")
