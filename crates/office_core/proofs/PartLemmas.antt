@@ -7,8 +7,8 @@ use Rattle.std.proofs.lemmas.Map.Views.{list_any-from_Contains, Contains-from_an
 use Rattle.dns_names.specs.Order.{same_name_equiv}
 use Rattle.grant_policy.specs.declared.rule.Rule.{Rule}
 use Rattle.zone_core.specs.declared.verdict.Failed.{Failed}
-use Rattle.zone_core.specs.Sets.{Records, Key, is_same, at_name}
-use Rattle.zone_core.specs.Zones.{ZoneOf, IsZone}
+use Rattle.zone_core.specs.Sets.{Records, at_name}
+use Rattle.zone_core.specs.Zones.{ZoneOf}
 use Rattle.zone_core.specs.Updates.{UpdateOf, IsUpdate, ActsWithin, tested_name, acted_name, item_names}
 use Rattle.zone_core.specs.Delegations.{AreNamesOf}
 use Rattle.zone_core.specs.Effects.{zone_after}
@@ -17,7 +17,7 @@ use Rattle.zone_core.specs.Parts.{part_of, at_names, tested, touched, Covers, Do
 use Rattle.zone_core.proofs.NeedLemmas.{updates_need}
 use Rattle.zone_core.proofs.SetLemmas.{name_is}
 use Rattle.office_model.specs.declared.reply.UpdateReply.{UpdateReply}
-use Rattle.office_model.specs.declared.reply.UpdateReply.TheVariants.{NoError, NotAuth, Failed as FailedReply}
+use Rattle.office_model.specs.declared.reply.UpdateReply.TheVariants.{NotAuth, Failed as FailedReply}
 use Rattle.office_model.specs.States.{Held, State, AreZones, zone_held, zone_at, part_at}
 use Rattle.office_core.specs.Machine.{outside_reply, denied_reply, failed_reply, zone_refusal}
 use Rattle.office_core.specs.Steps.{held_in, change_made, unread_refusal, Makes, MakesAt, MakesOf}

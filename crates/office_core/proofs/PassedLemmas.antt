@@ -12,8 +12,8 @@ use Rattle.zone_core.proofs.SetLemmas.{by_cases}
 use Rattle.office_model.specs.declared.passed.Passed.{Passed}
 use Rattle.office_model.specs.Tables.{ArePassed, hides, shown}
 use Rattle.office_core.specs.declared.bookmark.Point.{Point}
-use Rattle.office_core.specs.Bookmarks.{IsPoint, IsStart}
-use Rattle.office_core.specs.Machine.{if_some, listed, may_list, seen, seen_of}
+use Rattle.office_core.specs.Bookmarks.{IsStart}
+use Rattle.office_core.specs.Machine.{if_some, listed, seen, seen_of}
 use Rattle.office_core.proofs.SeenLemmas.{as_listed, seen_both}
 
 module _ (g : GrantsOf) (lists : g.action ≡ action.List) where

@@ -8,8 +8,8 @@ use Rattle.std.proofs.lemmas.Slice.Eq.{bytes_eq-Decides}
 use Rattle.dns_names.specs.Order.{same_name}
 use Rattle.dns_names.proofs.NameLemmas.{same_name-Decides}
 use Rattle.grant_policy.specs.declared.rule.Rule.{Rule}
-use Rattle.zone_core.specs.Sets.{Records, is_same}
-use Rattle.zone_core.specs.Zones.{AreKept, IsZone}
+use Rattle.zone_core.specs.Sets.{is_same}
+use Rattle.zone_core.specs.Zones.{IsZone}
 use Rattle.zone_core.specs.Updates.{UpdateOf, IsUpdate, same_update}
 use Rattle.zone_core.proofs.SetLemmas.{by_cases, name_is, name_self, name_other}
 use Rattle.zone_core.proofs.ZoneLemmas.{no}

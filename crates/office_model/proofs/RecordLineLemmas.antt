@@ -1,5 +1,5 @@
 -- A text of record lines has the records whose lines they are, and each is one line.
-use Rattle.std.proofs.Common.{◌≡◌, ℕ, zero, suc, ◌+◌, ◌<◌, ◌^◌, Bool, cond, true, false, eqb, not, ◌&&◌, List, [], ◌∷◌, ◌++◌, length, take, drop, Ok, refl, sym, ap, ◌∙◌, arith, append_assoc, length-append, Option, Some, None, Bor}
+use Rattle.std.proofs.Common.{◌≡◌, ℕ, ◌+◌, ◌<◌, ◌^◌, Bool, cond, true, false, eqb, not, ◌&&◌, List, [], ◌∷◌, ◌++◌, length, take, drop, refl, ap, ◌∙◌, arith, append_assoc, length-append, Option, Some, None, Bor}
 use Rattle.std.proofs.lemmas.Bool.{and_parts, and_from, agree_below_at}
 use Rattle.std.proofs.lemmas.List.Folds.{list_all-append}
 use Rattle.std.proofs.Math.Seq.{take-append_seam, drop-append-add}
@@ -9,17 +9,15 @@ use Rattle.dns_names.specs.Labels.{IsFolded, IsLabel, IsName}
 use Rattle.dns_names.specs.Spelling.{name_text, label_text}
 use Rattle.dns_names.specs.Spelling as names
 use Rattle.dns_data.specs.declared.record.Record.{Record}
-use Rattle.dns_data.specs.declared.record_type.RecordType.{RecordType}
-use Rattle.dns_data.specs.Items.{ItemText, plain, in_quotes, item_text, items_text}
-use Rattle.dns_data.specs.Strings.{IsString, string_text, octet_text}
+use Rattle.dns_data.specs.Items.{ItemText, plain, item_text, items_text}
+use Rattle.dns_data.specs.Strings.{string_text, octet_text}
 use Rattle.dns_data.specs.Types.{type_text}
 use Rattle.dns_data.specs.Rdata.{IsRecord, type_of}
 use Rattle.dns_data.specs.Text.{record_items, record_line}
 use Rattle.dns_data.proofs.KeptLaws.{each_passes}
 use Rattle.dns_data.proofs.OctetLaws.{IsPlainText, plain_passes, decimal_plain}
 use Rattle.dns_data.proofs.DataLaws.{each_item}
-use Rattle.dns_master.specs.Files.{placed_file}
-use Rattle.dns_master.specs.ZoneText.{ended_line, records_text, zone_text}
+use Rattle.dns_master.specs.ZoneText.{records_text, zone_text}
 use Rattle.dns_master.proofs.ZoneLaws.{zone_read}
 use Rattle.dns_master.proofs.FileLaws.{file_only}
 use Rattle.office_model.specs.RecordLines.{read_records, records_in, IsFirst}

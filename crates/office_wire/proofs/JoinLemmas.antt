@@ -1,5 +1,5 @@
 -- What follows one part of a stream joins what was answered before it.
-use Rattle.std.proofs.Common.{◌≡◌, ◌+◌, ℕ, arith, length, length-append, drop, List, [], ◌∷◌, ◌++◌, ◌∙◌, sym, ap, refl, subst, append_assoc, append-nil, Option}
+use Rattle.std.proofs.Common.{◌≡◌, ◌+◌, ℕ, arith, length-append, drop, List, [], ◌∷◌, ◌++◌, ◌∙◌, sym, ap, refl, subst, append_assoc, append-nil, Option}
 use Rattle.std.specs.List.{AllByRecursion}
 use Rattle.std.specs.Io.KnownBytes.{Appends}
 use Rattle.std.proofs.KnownBytes.{Appends-trans}

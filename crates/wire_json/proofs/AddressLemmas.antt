@@ -1,19 +1,16 @@
 -- Addresses in texts.
-use Rattle.std.proofs.Common.{◌≡◌, ℕ, Bool, true, false, List, [], ◌∷◌, Option, Some, None, Result, Ok, Err, refl, sym, ap, subst, ◌∙◌}
+use Rattle.std.proofs.Common.{◌≡◌, ℕ, Bool, true, false, List, [], ◌∷◌, Result, Ok, Err, refl, subst, ◌∙◌}
 use Rattle.std.specs.Prelude.{if◌then◌else◌}
 use Rattle.std.specs.declared.net.ip_addr.IpAddr.{IpAddr}
 use Rattle.std.specs.declared.net.ip_addr.IpAddr.TheVariants.{V4, V6}
-use Rattle.std.specs.declared.net.ipv4_addr.Ipv4Addr.{Ipv4Addr}
-use Rattle.std.specs.declared.net.ipv6_addr.Ipv6Addr.{Ipv6Addr}
 use Rattle.serde_json.specs.Data as json
 use Rattle.serde_json.specs.Data.{Data, Items}
 use Rattle.dns_data.specs.declared.data_fault.DataFault.{DataFault}
 use Rattle.dns_data.specs.Reading.{ipv4_of, ipv6_of}
 use Rattle.dns_data.proofs.FieldLaws.{ipv4_sound, ipv6_sound}
-use Rattle.wire_json.specs.declared.body_fault.BodyFault.{BodyFault}
 use Rattle.wire_json.specs.Faults.{◌>>=◌, of_datas}
 use Rattle.wire_json.specs.Bodies.{has_colon, SpellsAddress, IsAddressBody, AreItems}
-use Rattle.wire_json.specs.Reading.{ipv4_in, ipv6_in, address_of, address_in, each}
+use Rattle.wire_json.specs.Reading.{ipv4_in, ipv6_in, address_in, each}
 use Rattle.wire_json.proofs.ListLemmas.{each_found}
 
 -- what a step made, where it did not fail

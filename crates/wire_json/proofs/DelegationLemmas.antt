@@ -1,5 +1,5 @@
 -- The update of a delegation, by the lists of its request.
-use Rattle.std.proofs.Common.{◌≡◌, ℕ, Bool, List, [], ◌∷◌, ◌++◌, length, map, Result, Ok, Err, refl, sym, ap, ◌∙◌, ◌||◌}
+use Rattle.std.proofs.Common.{◌≡◌, ℕ, Bool, List, [], ◌∷◌, ◌++◌, length, map, Result, Err, refl, ap, ◌∙◌, ◌||◌}
 use Rattle.std.proofs.lemmas.List.{length-map}
 use Rattle.std.proofs.lemmas.List.Folds.{flat_map-map}
 use Rattle.std.proofs.lemmas.Simd.{map-map}
@@ -18,7 +18,6 @@ use Rattle.zone_core.specs.declared.faults.DelegationFault.TheVariants as delega
 use Rattle.zone_core.specs.Faults as zones
 use Rattle.wire_json.specs.declared.body_fault.BodyFault.{BodyFault}
 use Rattle.wire_json.specs.Faults.{Refuses, of_delegation}
-use Rattle.wire_json.specs.Bodies.{ServerOf, RequestOf}
 use Rattle.wire_json.specs.Delegating.{server_of, request_of, lacks_glue, deletions, addition, glue, operations_of, delegated}
 
 any_map : {A B : Type 0} (p : B → Bool) (f : A → B) (xs : List A) → list_any p (map f xs) ≡ list_any (λ x. p (f x)) xs

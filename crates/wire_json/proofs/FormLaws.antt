@@ -1,11 +1,11 @@
 -- What is of a form, is read.
-use Rattle.std.proofs.Common.{◌≡◌, ℕ, ◌≤◌, Bool, true, false, List, [], ◌∷◌, length, map, Option, Some, None, Result, Ok, Err, refl, sym, ap, subst, ◌∙◌, ⊎_elim, ◌||◌, ◌&&◌, le-leb, lt-ltb}
-use Rattle.std.specs.Prelude.{nat_lt, nat_le, is_some, option_and_then, if◌then◌else◌, bytes_eq}
+use Rattle.std.proofs.Common.{◌≡◌, ℕ, ◌≤◌, Bool, true, false, List, [], ◌∷◌, length, Option, Some, None, Result, Ok, refl, sym, ap, ◌∙◌, ⊎_elim, ◌||◌, ◌&&◌, le-leb, lt-ltb}
+use Rattle.std.specs.Prelude.{nat_lt, is_some, option_and_then, if◌then◌else◌}
 use Rattle.std.specs.List.{list_all}
 use Rattle.std.specs.declared.net.ip_addr.IpAddr.{IpAddr}
 use Rattle.std.specs.declared.net.ip_addr.IpAddr.TheVariants.{V4, V6}
-use Rattle.serde_json.specs.Data.{Data, number, unsigned, string, array, object, Items, no_items, Members}
-use Rattle.serde_json.specs.Find.{as_str, as_array, as_object, as_number, as_u64}
+use Rattle.serde_json.specs.Data.{Data, Items, no_items}
+use Rattle.serde_json.specs.Find.{as_str, as_array, as_number, as_u64}
 use Rattle.serde_json.specs.Events.{items_len}
 use Rattle.dns_names.specs.Reading.{absolute_name}
 use Rattle.dns_names.proofs.ReadingLaws.{absolute_only}
@@ -18,24 +18,20 @@ use Rattle.dns_data.proofs.FieldLaws.{ipv4_only, ipv6_only}
 use Rattle.dns_data.proofs.KeptLaws.{named_called}
 use Rattle.grant_policy.specs.Identifiers.{IsIdentifier}
 use Rattle.grant_policy.specs.Reading.{identifier_of}
-use Rattle.zone_core.specs.declared.kind.PrerequisiteKind.{PrerequisiteKind}
-use Rattle.zone_core.specs.declared.kind.OperationKind.{OperationKind}
 use Rattle.zone_core.specs.declared.update.Prerequisite.{Prerequisite}
 use Rattle.zone_core.specs.declared.update.Prerequisite.TheVariants.{RrsetExists, RrsetEquals, RrsetAbsent, NameUsed, NameUnused}
 use Rattle.zone_core.specs.declared.update.Operation.{Operation}
 use Rattle.zone_core.specs.declared.update.Operation.TheVariants.{Add, DeleteRrset, DeleteName, DeleteRecord}
 use Rattle.zone_core.specs.Kinds.{prerequisite_word, operation_word, prerequisite_named, operation_named, prerequisite_kind, operation_kind}
 use Rattle.zone_core.specs.Updates.{UpdateOf, update_of}
-use Rattle.zone_core.specs.declared.faults.UpdateFault.{UpdateFault}
-use Rattle.wire_json.specs.declared.body.UpdateBody.{UpdateBody}
 use Rattle.wire_json.specs.declared.body_fault.BodyFault.{BodyFault}
 use Rattle.wire_json.specs.declared.field.Field.{Field}
 use Rattle.wire_json.specs.declared.field.Field.TheVariants as field
 use Rattle.wire_json.specs.Fields.{update_fields, needed_fields, prerequisite_fields, operation_fields, delegation_fields, server_fields}
 use Rattle.wire_json.specs.Faults.{◌>>=◌, or_bad, of_names, of_datas, of_updates, of_delegations}
-use Rattle.wire_json.specs.Bodies.{json_of, at, has_only, HasOnly, IsText, IsArray, IsArrayOrAbsent, AreItems, IsNameField, IsTypeField, IsTtlField, IsDataField, IsIdField, IsSetBody, IsDatumBody, IsRecordBody, TestsBody, ChangesBody, IsPrerequisiteBody, IsOperationBody, IsUpdateValue, IsUpdateBody, ServerOf, RequestOf, has_colon, SpellsAddress, IsAddressBody, IsServerBody, IsDelegationValue, IsDelegationBody}
+use Rattle.wire_json.specs.Bodies.{at, HasOnly, IsText, IsArray, IsArrayOrAbsent, AreItems, IsNameField, IsTypeField, IsTtlField, IsDataField, IsIdField, IsSetBody, IsDatumBody, IsRecordBody, TestsBody, ChangesBody, IsPrerequisiteBody, IsOperationBody, IsUpdateValue, IsUpdateBody, ServerOf, RequestOf, SpellsAddress, IsAddressBody, IsServerBody, IsDelegationValue, IsDelegationBody}
 use Rattle.wire_json.specs.Delegating.{delegated}
-use Rattle.wire_json.specs.Reading.{or_no_json, members_in, known_only, all_there, fields_in, text_in, items_in, items_or_none, id_in, name_in, type_in, ttl_of, ttl_in, data_of_text, data_in, set_in, datum_in, record_in, test_in, change_in, word_in, prerequisite_kind_in, operation_kind_in, prerequisite_in, operation_in, each, few, body_with, lists_in, update_in, update_of_body, ipv4_in, ipv6_in, address_of, address_in, server_in, RequestBody, request_in, delegation_of_body}
+use Rattle.wire_json.specs.Reading.{or_no_json, members_in, known_only, all_there, fields_in, text_in, items_in, items_or_none, id_in, name_in, type_in, ttl_of, ttl_in, data_of_text, data_in, set_in, datum_in, record_in, test_in, change_in, word_in, prerequisite_kind_in, operation_kind_in, prerequisite_in, operation_in, each, body_with, lists_in, update_in, update_of_body, address_of, address_in, server_in, RequestBody, request_in, delegation_of_body}
 use Rattle.zone_core.proofs.KindLemmas.{prerequisite_is, operation_is}
 use Rattle.wire_json.proofs.DataLemmas.{said_only}
 use Rattle.wire_json.proofs.ListLemmas.{as_many, each_only}

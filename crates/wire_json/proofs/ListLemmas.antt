@@ -1,5 +1,5 @@
 -- The items of arrays, one after the other.
-use Rattle.std.proofs.Common.{◌≡◌, ℕ, suc, ◌+◌, ◌<◌, ◌≤◌, List, [], ◌∷◌, ◌++◌, length, drop, take, get_or, map, Option, Some, None, Result, Ok, Err, refl, sym, ap, subst, ◌∙◌, append_assoc, append-nil, arith}
+use Rattle.std.proofs.Common.{◌≡◌, ℕ, suc, ◌+◌, ◌<◌, ◌≤◌, List, [], ◌∷◌, ◌++◌, length, drop, take, get_or, Option, Some, None, Result, Ok, Err, refl, sym, ap, subst, ◌∙◌, append_assoc, append-nil}
 use Rattle.std.proofs.lemmas.List.{drop_all, drop_more, take_more, take_all}
 use Rattle.std.specs.Prelude.{IfOk}
 use Rattle.std.specs.Option.{ok_or}
@@ -9,7 +9,7 @@ use Rattle.serde_json.specs.Events.{items_len}
 use Rattle.serde_json.specs.View.{view, items_view}
 use Rattle.wire_json.specs.declared.body_fault.BodyFault.{BodyFault}
 use Rattle.wire_json.specs.declared.body_fault.BodyFault.TheVariants as faults
-use Rattle.wire_json.specs.Faults.{◌>>=◌, Refuses, Gives}
+use Rattle.wire_json.specs.Faults.{◌>>=◌, Refuses}
 use Rattle.wire_json.specs.Bodies.{AreItems}
 use Rattle.wire_json.specs.Reading.{each}
 

@@ -1,5 +1,5 @@
 -- The texts of short bodies, by their pieces.
-use Rattle.std.proofs.Common.{◌≡◌, ℕ, Bool, true, false, List, [], ◌∷◌, ◌++◌, refl, sym, ap, subst, ◌∙◌, append_assoc, eqb, eqb-true, codes, ◌||◌, ◌&&◌, true≢false}
+use Rattle.std.proofs.Common.{◌≡◌, ℕ, Bool, true, false, List, [], ◌∷◌, ◌++◌, refl, sym, ap, ◌∙◌, append_assoc, eqb, eqb-true, codes, ◌||◌, ◌&&◌, true≢false}
 use Rattle.std.specs.Prelude.{decimal, if◌then◌else◌, ◌==◌}
 use Rattle.std.specs.List.{list_all}
 use Rattle.std.specs.Fmt.{digits}
@@ -10,7 +10,7 @@ use Rattle.zone_core.specs.declared.update.ItemList.{ItemList}
 use Rattle.zone_core.specs.declared.update.ItemList.TheVariants.{Prerequisites, Operations}
 use Rattle.zone_core.specs.Kinds.{list_word}
 use Rattle.zone_core.specs.Rcodes.{rcode_number, rcode_text}
-use Rattle.wire_json.specs.Json.{escaped_octet, escaped, quoted, member, object}
+use Rattle.wire_json.specs.Json.{escaped, quoted, member, object}
 use Rattle.wire_json.specs.Replies.{form_error_body, place_body, refusing_body, granted_body}
 
 -- an octet of an identifier is no quote and no backslash

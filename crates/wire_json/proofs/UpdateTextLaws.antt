@@ -1,12 +1,9 @@
 -- The text of an update is read as the update.
-use Rattle.std.proofs.Common.{◌≡◌, ℕ, ◌<◌, ◌≤◌, zero, suc, Bool, true, false, eqb, leb, ◌&&◌, ◌||◌, List, [], ◌∷◌, length, map, Some, Ok, refl, sym, ap, subst, ◌∙◌, arith, inl, zero-le, eqb-true}
-use Rattle.std.proofs.lemmas.Bool.{and_parts, le-ltb, leb-true}
-use Rattle.std.proofs.lemmas.Str.{IsUtf8-from_ascii}
+use Rattle.std.proofs.Common.{◌≡◌, ℕ, ◌<◌, ◌≤◌, suc, false, ◌&&◌, ◌||◌, List, [], ◌∷◌, length, map, Some, Ok, refl, sym, ap, subst, ◌∙◌, arith, inl, zero-le}
+use Rattle.std.proofs.lemmas.Bool.{le-ltb}
 use Rattle.std.proofs.Math.Nat.{max-le}
-use Rattle.std.specs.Char.{is_ascii_alphanumeric}
-use Rattle.std.specs.Int.{is_in_range}
-use Rattle.std.specs.Prelude.{slice_index, IsUtf8}
-use Rattle.std.specs.List.{AllByRecursion, filter, list_all}
+use Rattle.std.specs.Prelude.{IsUtf8}
+use Rattle.std.specs.List.{AllByRecursion, filter}
 use Rattle.serde_json.specs.Data.{Data, depth, items_depth, members_depth}
 use Rattle.serde_json.specs.Read.{read, max_depth}
 use Rattle.serde_json.specs.View.{items_of}
@@ -16,7 +13,7 @@ use Rattle.dns_names.proofs.ReadingLaws.{text_spells}
 use Rattle.dns_data.specs.Types.{type_text}
 use Rattle.dns_data.specs.Rdata.{type_of}
 use Rattle.dns_data.specs.Text.{data_text}
-use Rattle.grant_policy.specs.Identifiers.{IsIdentifier, is_identifier_octet}
+use Rattle.grant_policy.specs.Identifiers.{IsIdentifier}
 use Rattle.zone_core.specs.declared.update.Prerequisite.{Prerequisite}
 use Rattle.zone_core.specs.declared.update.Prerequisite.TheVariants.{RrsetExists, RrsetEquals, RrsetAbsent, NameUsed, NameUnused}
 use Rattle.zone_core.specs.declared.update.Operation.{Operation}

@@ -1,8 +1,7 @@
 -- The update of a delegation, by the lists of its request.
-use Rattle.std.specs.Prelude.{◌≡◌, ℕ, List, [], ◌∷◌, ◌++◌, length, map, Bool, not, ◌&&◌, ◌==◌, if◌then◌else◌, Result, Ok, Err}
+use Rattle.std.specs.Prelude.{◌≡◌, ℕ, List, [], ◌∷◌, ◌++◌, length, map, Bool, not, ◌&&◌, ◌==◌, if◌then◌else◌, Result, Err}
 use Rattle.std.specs.List.{list_any, flat_map}
 use Rattle.dns_names.specs.Labels.{is_within}
-use Rattle.dns_data.specs.declared.record.Record.{Record}
 use Rattle.dns_data.specs.declared.record_type.RecordType.TheVariants as types
 use Rattle.dns_data.specs.declared.rdata.Data.TheVariants.{Ns}
 use Rattle.zone_core.specs.declared.delegation.ChildServer.{ChildServer}

@@ -1,8 +1,7 @@
 -- What a body says, with the refusal that comes first: no JSON; no object, a field that is not asked for, a field that is
 -- missing, a value that is not of its form; too many items; the same of each item in turn; the items as an update.
-use Rattle.std.specs.Prelude.{◌≡◌, ℕ, List, [], ◌∷◌, map, Bool, ◌||◌, ◌&&◌, ◌==◌, nat_lt, nat_le, if◌then◌else◌, Option, Some, None, option_and_then, is_some, Result, Ok, Err}
+use Rattle.std.specs.Prelude.{◌≡◌, ℕ, List, [], ◌∷◌, map, ◌||◌, ◌&&◌, ◌==◌, nat_lt, nat_le, if◌then◌else◌, Option, Some, None, option_and_then, is_some, Result, Ok, Err}
 use Rattle.std.specs.List.{list_all}
-use Rattle.std.specs.Result.{result_ok}
 use Rattle.std.specs.declared.net.ip_addr.IpAddr.{IpAddr}
 use Rattle.std.specs.declared.net.ip_addr.IpAddr.TheVariants.{V4, V6}
 use Rattle.serde_json.specs.Data.{Data, Items, no_items, item, Members}
@@ -33,7 +32,7 @@ use Rattle.wire_json.specs.declared.body_fault.BodyFault.{BodyFault}
 use Rattle.wire_json.specs.declared.body_fault.BodyFault.TheVariants.{NotJson, UnknownField, MissingField, BadField, Update}
 use Rattle.wire_json.specs.declared.field.Field.{Field}
 use Rattle.wire_json.specs.declared.field.Field.TheVariants as field
-use Rattle.wire_json.specs.Fields.{field_text, update_fields, needed_fields, prerequisite_fields, operation_fields, delegation_fields, server_fields}
+use Rattle.wire_json.specs.Fields.{update_fields, needed_fields, prerequisite_fields, operation_fields, delegation_fields, server_fields}
 use Rattle.wire_json.specs.Faults.{◌>>=◌, or_bad, of_names, of_shapes, of_datas, of_updates, of_delegations}
 use Rattle.wire_json.specs.Bodies.{json_of, at, has_only, has_colon, ServerOf, RequestOf}
 use Rattle.wire_json.specs.Delegating.{delegated}

@@ -2,7 +2,7 @@ use Rattle.std.proofs.Common.{ℕ, List, option_map, sym, subst, ◌∙◌}
 use Rattle.zone_core.specs.Changes.{change_in}
 use Rattle.zone_core.specs.Delegations.{AreNamesOf}
 use Rattle.zone_core.specs.Updates.{item_names}
-use Rattle.office_core.proofs.PartLemmas.{by_part, unread, without_zone}
+use Rattle.office_core.proofs.PartLemmas.{by_part}
 use Rattle.office_core.proofs.update.decided.Goals as goal
 
 pub returns-clause-makes : goal.returns-clause-makes

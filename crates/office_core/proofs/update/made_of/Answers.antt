@@ -1,7 +1,6 @@
-use Rattle.std.proofs.Common.{◌≡◌, true, false, ap, subst, sym, option_map, ◌∙◌}
+use Rattle.std.proofs.Common.{◌≡◌, true, false, ap, subst, sym, ◌∙◌}
 use Rattle.std.proofs.lemmas.Result.{IfOk-weaker}
 use Rattle.dns_names.specs.Order.{same_name}
-use Rattle.zone_core.specs.Changes.{change_in}
 use Rattle.zone_core.specs.Updates.{ActsWithin}
 use Rattle.zone_core.proofs.SetLemmas.{name_is, name_self}
 use Rattle.office_core.proofs.update.made_of.Goals as goal

@@ -1,4 +1,4 @@
-use Rattle.std.proofs.Common.{◌≡◌, ℕ, List, Option, Bor, subst, arith}
+use Rattle.std.proofs.Common.{◌≡◌, ℕ, List, subst, arith}
 use Rattle.office_model.proofs.RecordLineLemmas.{IsCut, cut_at_first}
 use Rattle.office_model.proofs.record_lines.first_line.Goals as goal
 

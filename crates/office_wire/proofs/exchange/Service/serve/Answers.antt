@@ -1,8 +1,8 @@
-use Rattle.std.proofs.Common.{◌∙◌, ◌+◌, ◌<◌, ℕ, List, refl, sym, subst, arith, rules}
+use Rattle.std.proofs.Common.{◌∙◌, ◌+◌, ◌<◌, ℕ, List, refl, sym, subst, arith}
 use Rattle.office_wire.specs.Exchange.{Waits}
 use Rattle.office_wire.specs.Order.{moment}
 use Rattle.office_wire.specs.Serving.{mark}
-use Rattle.office_wire.proofs.ServingLemmas.{at_least_none, at_least_one, IsAnsweredRead, none_came, first_read, went_read, went_nowhere, ended, ended_part, went_closed, went_broken, went_on, sooner, halted, waits_nil, stayed}
+use Rattle.office_wire.proofs.ServingLemmas.{at_least_none, at_least_one, none_came, first_read, went_read, went_nowhere, ended, ended_part, went_closed, went_broken, went_on, sooner, halted, waits_nil, stayed}
 use Rattle.office_wire.proofs.exchange.Service.serve.Goals as goal
 
 pub reads-init : goal.reads-init
